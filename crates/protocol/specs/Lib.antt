@@ -1,5 +1,4 @@
 -- Document 01, 'The bench': the parts, the rules of each call, and demand 3.
-pub mod Mask
 pub mod Parts
 pub mod Tile
 pub mod Home
