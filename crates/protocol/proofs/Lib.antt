@@ -1,3 +1,4 @@
 pub mod Invariant
 pub mod TileSteps
 pub mod ViewSteps
+pub mod Moves

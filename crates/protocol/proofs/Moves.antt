@@ -1,0 +1,220 @@
+-- The home's moves on a bench whose front message is already gone: grants, asking the owner, invalidating, the line's leaving. Each puts its
+-- messages and leaves the invariant, if the tiles are as the move needs them.
+use Prim.Native.Nat.{ℕ, zero, suc, _+_, _≤_, _<_, _^_}
+use mathlib.Core.Path.{_≡_, refl, sym, subst, ap, _∙_}
+use mathlib.Core.Bool.{Bool, true, false, cond}
+use mathlib.Core.List.{List, [], _∷_, map}
+use mathlib.Core.Option.{Option, some, none, Option·map}
+use native.Mathlib.Omega.{arith}
+use lib.Dec.{eqb}
+use lib.ListN.{length, set, length-set}
+use lib.Seq.{getD-set-same, getD-set-other}
+use borrow.Author.Tests.{eqb-true, eqb-false}
+use Rattle.bits.specs.Mask.{has, add}
+use Rattle.bits.proofs.MaskLaws.{has-add, has-add-other, add-lt}
+use Rattle.protocol.specs.Parts.{Words, Queue, empty, one, two, Access, reading, writing, Right, shared, exclusive, modified, Forward, loadFwd, storeFwd, invFwd, dataAck, ToMemory, loadMem, storeMem, FromMemory, Message, onNoc2, toMemory, Tile, tileOf, Directory, uncached, sharedBy, ownedBy, Line, absent, present, Cause, request, eviction, Clearing, clearForStore, clearForEviction, Home, idle, awaitingLoad, awaitingOwner, awaitingAcks, awaitingStore, Bench, benchOf, Result, refused, accepted}
+use Rattle.protocol.specs.Home.{Move, move, range, among, members, grantShared, grantOwner, ownRight, askedFor, askOwner, invalidateTo, invalidate, leave}
+use Rattle.protocol.specs.Bench.{freshTile, tileAt, push, onTile2, sendOne, sendTo, send, sent, posted, kindOf}
+use Rattle.protocol.proofs.Invariant.{Relation, stranger, sharer, owner, Askable, ask-load, ask-store, ask-inv, TileOk, AsksFor, asks-load, asks-store, asks-eviction, Apart, ApartFrom, Sees, sees-absent, sees-uncached, sees-sharer, sees-outsider, sees-owner, sees-unowning, loads, loads-not, asked-owner, requester, bystander, owing, storer, cleared-out, sees-leaving, LineOk, absent-ok, uncached-ok, shared-ok, owned-ok, CauseOk, ClearingOk, HomeOk, idle-ok, owner-ok, acks-ok, store-out, At, at, All, Inv, inv, Fine, fine}
+use Rattle.protocol.proofs.ViewSteps.{false-true, GrantFrom, Sent, sent-on, grant-owner, ShareFrom, grant-shared, ask-tile}
+
+-- what is known of each tile
+abbrev pub Knowledge : Type 1
+Knowledge = ℕ → Relation → Option Access → Option Forward → Type 0
+
+-- ---- one tile replaced, all others as before
+
+module _ (ts : List Tile) (t : ℕ) (y : Tile) where
+  pub same-tile : (P : Tile → Type 0) → t < length ts → P y → P (tileAt (set ts t y) t)
+  same-tile P h p = subst P (sym (getD-set-same ts t y freshTile h)) p
+
+  pub other-tile : (P : Tile → Type 0) (u : ℕ) → (t ≡ u → ⊥) → P (tileAt ts u) → P (tileAt (set ts t y) u)
+  other-tile P u ne p = subst P (sym (getD-set-other ts t u y freshTile (λ e. ne (sym e)))) p
+
+  pub each-tile : {n : ℕ} (P : ℕ → Tile → Type 0) → length ts ≡ n → ((u : ℕ) → u < n → (t ≡ u → ⊥) → P u (tileAt ts u)) → P t y → (u : ℕ) → u < n → P u (tileAt (set ts t y) u)
+  each-tile P len others here u lt = go (eqb t u) refl
+    where
+      go : (b : Bool) → eqb t u ≡ b → P u (tileAt (set ts t y) u)
+      go true e =
+          let q : t ≡ u = eqb-true t u e in
+          subst (λ (z : ℕ). P z (tileAt (set ts t y) z)) q (same-tile (P t) (omega arith) here)
+      go false e =
+          let ne : t ≡ u → ⊥ = eqb-false t u e in
+          other-tile (P u) u ne (others u lt ne)
+
+-- the same tile under other marks and another description
+pub carry : {k j t : ℕ} {S R : Knowledge} {x : Tile} → has j t ≡ has k t → ((rel : Relation) (cur : Option Access) (ask : Option Forward) → S t rel cur ask → R t rel cur ask) → At k S t x → At j R t x
+carry e f (at {rel} {cur} {ask} s m o) = at (f rel cur ask s) (e ∙ m) o
+
+-- exactly this is known
+pub data Exactly (rel : Relation) (cur : Option Access) (ask : Option Forward) : ℕ → Relation → Option Access → Option Forward → Type 0 where
+  exactly : {t : ℕ} → Exactly rel cur ask t rel cur ask
+
+-- the directory knows nothing of it
+abbrev pub Alone : Knowledge
+Alone = Exactly stranger none none
+
+-- ---- a move's messages
+
+abbrev pub post : Move → ℕ → ℕ → ℕ → Words → Queue ToMemory → Queue FromMemory → List Tile → Result Bench
+post (move h ms) v l k mem out back ts = posted (kindOf ms) v ms (benchOf h l k mem out back ts)
+
+send-then : {n : ℕ} {P : Tile → Type 0} {m : Forward} (h : Home) (l k : ℕ) (mem : Words) (out : Queue ToMemory) (back : Queue FromMemory) (kd v : ℕ) (ts : List Tile) (all rest : List Message) (r : ℕ)
+    → Sent m (tileAt ts r) P
+    → ((y : Tile) → P y → Fine n (sent kd v all (send rest (some (benchOf h l k mem out back (set ts r y))))))
+    → Fine n (sent kd v all (send (onNoc2 r m ∷ rest) (some (benchOf h l k mem out back ts))))
+unfolding send sendTo sendOne
+send-then {n} h l k mem out back kd v ts all rest r (sent-on {y} e p) f =
+    subst
+    (λ (o : Option Tile). Fine n (sent kd v all (send rest (Option·map (λ x. benchOf h l k mem out back (set ts r x)) o))))
+    (sym e)
+    (f y p)
+
+pub send-one : {n : ℕ} {P : Tile → Type 0} {m : Forward} (h : Home) (l k : ℕ) (mem : Words) (out : Queue ToMemory) (back : Queue FromMemory) (kd v : ℕ) (ts : List Tile) (r : ℕ)
+    → Sent m (tileAt ts r) P
+    → ((y : Tile) → P y → Inv n (benchOf h l k mem out back (set ts r y)))
+    → Fine n (posted kd v (onNoc2 r m ∷ []) (benchOf h l k mem out back ts))
+unfolding posted send sent
+send-one {m} h l k mem out back kd v ts r s f = send-then h l k mem out back kd v ts (onNoc2 r m ∷ []) [] r s (λ y p. fine (f y p))
+
+-- ---- what the tiles are before each move
+
+-- the tile that is granted E or M
+pub data Grantee (a : Access) : ℕ → Relation → Option Access → Option Forward → Type 0 where
+  grantee : {t : ℕ} {rel : Relation} → GrantFrom rel a → Grantee a t rel (some a) none
+
+-- the tile that is granted S
+pub data Sharee : ℕ → Relation → Option Access → Option Forward → Type 0 where
+  sharee : {t : ℕ} {rel : Relation} → ShareFrom rel → Sharee t rel (some reading) none
+
+-- the tiles beside an owner that is to be asked
+pub data Beside : Cause → ℕ → Relation → Option Access → Option Forward → Type 0 where
+  asker : {t : ℕ} {a : Access} → Beside (request t a) t stranger (some a) none
+  beside : {t : ℕ} {c : Cause} → Apart c t → Beside c t stranger none none
+
+-- the tiles before the invalidations of `owed`
+pub data ToClear (owed : ℕ) : Clearing → ℕ → Relation → Option Access → Option Forward → Type 0 where
+  to-owe : {t : ℕ} {c : Clearing} → has owed t ≡ true → ToClear owed c t sharer none none
+  to-store : {t : ℕ} → has owed t ≡ false → ToClear owed (clearForStore t) t sharer (some writing) none
+  to-pass : {t : ℕ} {c : Clearing} → has owed t ≡ false → ApartFrom c t → ToClear owed c t stranger none none
+
+-- ---- the descriptions after them
+
+alone-unowning : {o t : ℕ} {d : Bool} {ws : Words} → (o ≡ t → ⊥) → (rel : Relation) (cur : Option Access) (ask : Option Forward) → Alone t rel cur ask → Sees (idle (present d ws (ownedBy o))) t rel cur ask
+alone-unowning ne rel cur ask exactly = sees-unowning ne
+
+alone-absent : {t : ℕ} → (rel : Relation) (cur : Option Access) (ask : Option Forward) → Alone t rel cur ask → Sees (idle absent) t rel cur ask
+alone-absent rel cur ask exactly = sees-absent
+
+alone-leaving : {t : ℕ} {x : Line} → (rel : Relation) (cur : Option Access) (ask : Option Forward) → Alone t rel cur ask → Sees (awaitingStore x) t rel cur ask
+alone-leaving rel cur ask exactly = sees-leaving
+
+-- another tile is added to the mask
+one-more : {m r t : ℕ} {d e : Bool} {ws us : Words} → (r ≡ t → ⊥) → (rel : Relation) (cur : Option Access) (ask : Option Forward)
+    → Sees (idle (present d ws (sharedBy m))) t rel cur ask → Sees (idle (present e us (sharedBy (add m r)))) t rel cur ask
+one-more {m} {r} {t} ne rel cur ask (sees-sharer h) = sees-sharer (has-add-other m r t ne ∙ h)
+one-more {m} {r} {t} ne rel cur ask (sees-outsider h) = sees-outsider (has-add-other m r t ne ∙ h)
+
+beside-asked : {o t : ℕ} {d : Bool} {ws : Words} {c : Cause} → (o ≡ t → ⊥) → (rel : Relation) (cur : Option Access) (ask : Option Forward) → Beside c t rel cur ask → Sees (awaitingOwner d ws o c) t rel cur ask
+beside-asked ne rel cur ask asker = requester ne
+beside-asked ne rel cur ask (beside a) = bystander ne a
+
+-- what is asked of the owner, and that an owner can be asked it
+asks : (c : Cause) → AsksFor c (askedFor c)
+unfolding askedFor
+asks (request t reading) = asks-load
+asks (request t writing) = asks-store
+asks eviction = asks-eviction
+
+askable : {c : Cause} {f : Forward} → AsksFor c f → Askable owner none (some f)
+askable asks-load = ask-load
+askable asks-store = ask-store
+askable asks-eviction = ask-store
+
+-- ---- the moves
+
+module _ (n v l k : ℕ) (mem : Words) (ts : List Tile) (len : length ts ≡ n) where
+  pub grantOwner-fine : {a : Access} (d : Bool) (ws : Words) (miss : Bool) (r : ℕ) → r < n → At k (Grantee a) r (tileAt ts r) → ((u : ℕ) → u < n → (r ≡ u → ⊥) → At k Alone u (tileAt ts u))
+      → Fine n (post (grantOwner d ws (ownRight a) miss r) v l k mem empty empty ts)
+  unfolding grantOwner kindOf
+  grantOwner-fine d ws miss r lt (at (grantee g) m o) others =
+      send-one (idle (present d ws (ownedBy r))) l k mem empty empty 3 v ts r (grant-owner g o)
+      (λ y p. inv (length-set ts r y ∙ len) (idle-ok (owned-ok lt))
+      (each-tile ts r y (At k (Sees (idle (present d ws (ownedBy r))))) len (λ u lu ne. carry refl (alone-unowning ne) (others u lu ne)) (at sees-owner m p)))
+
+  pub grantShared-fine : {e : Bool} {us : Words} (d : Bool) (ws : Words) (m r : ℕ) → m < 2 ^ n → r < n → At k Sharee r (tileAt ts r) → ((u : ℕ) → u < n → (r ≡ u → ⊥) → At k (Sees (idle (present e us (sharedBy m)))) u (tileAt ts u))
+      → Fine n (post (grantShared d ws m r) v l k mem empty empty ts)
+  unfolding grantShared kindOf
+  grantShared-fine d ws m r lm lt (at (sharee g) e o) others =
+      send-one (idle (present d ws (sharedBy (add m r)))) l k mem empty empty 3 v ts r (grant-shared g o)
+      (λ y p. inv (length-set ts r y ∙ len) (idle-ok (shared-ok (add-lt n m r lm lt)))
+      (each-tile ts r y (At k (Sees (idle (present d ws (sharedBy (add m r)))))) len (λ u lu ne. carry refl (one-more ne) (others u lu ne)) (at (sees-sharer (has-add m r)) e p)))
+
+  pub askOwner-fine : (d : Bool) (ws : Words) (o : ℕ) (c : Cause) → o < n → CauseOk n o c → At k (Exactly owner none none) o (tileAt ts o) → ((u : ℕ) → u < n → (o ≡ u → ⊥) → At k (Beside c) u (tileAt ts u))
+      → Fine n (post (askOwner d ws o c) v l k mem empty empty ts)
+  unfolding askOwner kindOf
+  askOwner-fine d ws o c lt cok (at exactly m x) others =
+      send-one (awaitingOwner d ws o c) l k mem empty empty 3 v ts o (ask-tile (askable (asks c)) x)
+      (λ y p. inv (length-set ts o y ∙ len) (owner-ok lt cok)
+      (each-tile ts o y (At k (Sees (awaitingOwner d ws o c))) len (λ u lu ne. carry refl (beside-asked ne) (others u lu ne)) (at (asked-owner (asks c)) m p)))
+
+  pub leave-fine : (d : Bool) (ws : Words) → All n k Alone ts → Fine n (post (leave d ws) v l k mem empty empty ts)
+  unfolding leave kindOf posted send sendTo sendOne push sent
+  leave-fine true ws all = fine (inv len store-out (λ u lu. carry refl alone-leaving (all u lu)))
+  leave-fine false ws all = fine (inv len (idle-ok absent-ok) (λ u lu. carry refl alone-absent (all u lu)))
+
+-- ---- the invalidations, in rising order
+
+also : {m : Forward} {x : Tile} {P Q : Tile → Type 0} → ((y : Tile) → P y → Q y) → Sent m x P → Sent m x Q
+also f (sent-on {y} e p) = sent-on e (f y p)
+
+clash : {A : Type 0} {b : Bool} → b ≡ true → b ≡ false → A
+clash t f = false-true (sym f ∙ t)
+
+-- a tile that is owed is sent its invalidation, and no other is
+owed-sent : {k owed t m : ℕ} {d : Bool} {ws : Words} {c : Clearing} {x : Tile} → has owed t ≡ true → At k (ToClear owed c) t x → Sent invFwd x (At k (Sees (awaitingAcks d ws m owed c)) t)
+owed-sent h (at (to-owe e) q o) = also (λ y p. at (owing e) q p) (ask-tile ask-inv o)
+owed-sent h (at (to-store e) q o) = clash h e
+owed-sent h (at (to-pass e a) q o) = clash h e
+
+not-owed : {k owed t m : ℕ} {d : Bool} {ws : Words} {c : Clearing} {x : Tile} → has owed t ≡ false → At k (ToClear owed c) t x → At k (Sees (awaitingAcks d ws m owed c)) t x
+not-owed h (at (to-owe e) q o) = clash e h
+not-owed h (at (to-store e) q o) = at (storer e) q o
+not-owed h (at (to-pass e a) q o) = at (cleared-out e a) q o
+
+module _ (n v l k : ℕ) (mem : Words) (kd : ℕ) (all : List Message) (d : Bool) (ws : Words) (m owed : ℕ) (c : Clearing) where
+  -- the tiles below i are done
+  abbrev Until : ℕ → ℕ → Tile → Type 0
+  Until i u x = (u < i → At k (Sees (awaitingAcks d ws m owed c)) u x) × (i ≤ u → At k (ToClear owed c) u x)
+
+  send-all : (j i : ℕ) (ts : List Tile) → length ts ≡ n → i + j ≡ n → ((u : ℕ) → u < n → Until i u (tileAt ts u))
+      → ((us : List Tile) → length us ≡ n → All n k (Sees (awaitingAcks d ws m owed c)) us → Inv n (benchOf (awaitingAcks d ws m owed c) l k mem empty empty us))
+      → Fine n (sent kd v all (send (map invalidateTo (among owed (range i j))) (some (benchOf (awaitingAcks d ws m owed c) l k mem empty empty ts))))
+  unfolding range among send sent invalidateTo
+  send-all zero i ts len e st end = fine (end ts len (λ u lu. st u lu .0 (omega arith)))
+  send-all (suc j) i ts len e st end = go (has owed i) refl (λ us lus su. send-all j (suc i) us lus (omega arith) su end)
+    where
+      go : (b : Bool) → has owed i ≡ b
+          → ((us : List Tile) → length us ≡ n → ((u : ℕ) → u < n → Until (suc i) u (tileAt us u))
+          → Fine n (sent kd v all (send (map invalidateTo (among owed (range (suc i) j))) (some (benchOf (awaitingAcks d ws m owed c) l k mem empty empty us)))))
+          → Fine n (sent kd v all (send (map invalidateTo (cond b (i ∷ among owed (range (suc i) j)) (among owed (range (suc i) j)))) (some (benchOf (awaitingAcks d ws m owed c) l k mem empty empty ts))))
+      go true h next =
+          send-then (awaitingAcks d ws m owed c) l k mem empty empty kd v ts all (map invalidateTo (among owed (range (suc i) j))) i
+          (owed-sent {m = m} {d = d} {ws = ws} h (st i (omega arith) .1 (omega arith)))
+          (λ y q. next (set ts i y) (length-set ts i y ∙ len)
+          (each-tile ts i y (Until (suc i)) len
+          (λ u lu ne. ((λ a. st u lu .0 (omega arith)), (λ a. st u lu .1 (omega arith))))
+          ((λ a. q), (λ a. absurd (omega arith)))))
+      go false h next =
+          next ts len (λ u lu. ((λ a. below u lu a (eqb i u) refl), (λ a. st u lu .1 (omega arith))))
+        where
+          below : (u : ℕ) → u < n → u < suc i → (b : Bool) → eqb i u ≡ b → At k (Sees (awaitingAcks d ws m owed c)) u (tileAt ts u)
+          below u lu a true q =
+              subst (λ (z : ℕ). At k (Sees (awaitingAcks d ws m owed c)) z (tileAt ts z)) (eqb-true i u q) (not-owed h (st i (omega arith) .1 (omega arith)))
+          below u lu a false q = let ne : i ≡ u → ⊥ = eqb-false i u q in st u lu .0 (omega arith)
+
+  pub invalidate-fine : (ts : List Tile) → length ts ≡ n → owed < 2 ^ n → (owed ≡ 0 → ⊥) → ClearingOk n owed c → All n k (ToClear owed c) ts
+      → Fine n (sent kd v all (send (map invalidateTo (members owed n)) (some (benchOf (awaitingAcks d ws m owed c) l k mem empty empty ts))))
+  unfolding members
+  invalidate-fine ts len lo ne cok st =
+      send-all n 0 ts len (omega arith) (λ u lu. ((λ a. absurd (omega arith)), (λ a. st u lu))) (λ us lus su. inv lus (acks-ok lo ne cok) su)
