@@ -168,7 +168,7 @@ module _ (n v l k : ℕ) (mem : Words) (ts : List Tile) (len : length ts ≡ n) 
 also : {m : Forward} {x : Tile} {P Q : Tile → Type 0} → ((y : Tile) → P y → Q y) → Sent m x P → Sent m x Q
 also f (sent-on {y} e p) = sent-on e (f y p)
 
-clash : {A : Type 0} {b : Bool} → b ≡ true → b ≡ false → A
+pub clash : {A : Type 0} {b : Bool} → b ≡ true → b ≡ false → A
 clash t f = false-true (sym f ∙ t)
 
 -- a tile that is owed is sent its invalidation, and no other is
