@@ -1,0 +1,2 @@
+-- Demand 3 over the rules: what needs no invariant.
+pub mod Weight
