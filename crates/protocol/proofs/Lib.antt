@@ -1,2 +1,3 @@
 -- Demand 3 over the rules: what needs no invariant.
 pub mod Weight
+pub mod Sent
