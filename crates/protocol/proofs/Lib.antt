@@ -1,3 +1,4 @@
 -- Demand 3 over the rules: what needs no invariant.
 pub mod Weight
 pub mod Sent
+pub mod Effect
