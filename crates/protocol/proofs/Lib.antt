@@ -2,3 +2,5 @@
 pub mod Weight
 pub mod Sent
 pub mod Effect
+pub mod Waiting
+pub mod Fair
