@@ -15,6 +15,7 @@ use Rattle.protocol.specs.Tile.{loadAt, storeAt, evictAt, Received, misf
 use Rattle.protocol.specs.Home.{Move, move, serve, writeBack, loadAckS, loadAckI, storeAck, invAck, acknowledged, evictLine}
 use Rattle.protocol.specs.Bench.{freshTile, tileAt, front, rest, noc1, noc3, popNoc1, popNoc3, settle, atTile, atWord, posted, kindOf, arbitrate, served, take, takeFrom, takingOn, writtenBack, moved, accept, fromTileOn, memoryServes, memoryStepOn, acceptAck, memoryAckOn, homeEvictionOn, step}
 use Rattle.protocol.specs.Demand3.{kept, after, Answer, answer, answered, hasKind, Event, event, waitsAfter, isWaiting, tilesOf, isRequest, takes}
+use Rattle.protocol.proofs.Weight.{forwardWeight}
 use Rattle.protocol.proofs.Sent.{lastTaken, asks, Alike, waiting-alone, set-related, Same, same-bench, same-tiles, same-then, same-set, Sent, on-posted}
 
 -- a taking's answer names the last taken; a refused one changes nothing
@@ -136,53 +137,53 @@ evicted u (tileOf (valid shared ws) p q1 q2 q3) = record { waiting = waiting-alo
 evicted u (tileOf (valid exclusive ws) p q1 q2 q3) = record { waiting = waiting-alone p (valid exclusive ws) invalid q1 q1 q2 q2 q3 q3; asking = λ e. e }
 evicted u (tileOf (valid modified ws) p q1 q2 q3) = record { waiting = waiting-alone p (valid modified ws) invalid q1 q1 q2 q2 q3 q3; asking = λ e. e }
 
--- what a tile receives answers a load or writes a store only if it fills
-abbrev Fills : Received → Type 0
-Fills misfit = Unit {0}
-Fills (filled k v c) = hasKind 1 (answer 0 k v) || hasKind 2 (answer 0 k v) ≡ true
-Fills (Received.answered c a) = Unit {0}
+-- what a tile receives: what fills its line answers a load or writes a store; what it answers was a forward or an invalidation
+abbrev pub Fits : Forward → Received → Type 0
+Fits m misfit = Unit {0}
+Fits m (filled k v c) = hasKind 1 (answer 0 k v) || hasKind 2 (answer 0 k v) ≡ true
+Fits m (Received.answered c a) = forwardWeight m ≡ 2
 
-fills : (r : Right) (ws : Words) (c : Cache) (p : Waiting) → Fills (fill r ws c p)
+fills : (r : Right) (miss : Bool) (ws : Words) (c : Cache) (p : Waiting) → Fits (dataAck r miss ws) (fill r ws c p)
 unfolding fill hasKind
-fills r ws c nothing = tt
-fills shared ws invalid (forLoad w) = refl
-fills exclusive ws invalid (forLoad w) = refl
-fills modified ws invalid (forLoad w) = tt
-fills r ws (valid x us) (forLoad w) = tt
-fills modified ws invalid (forStore w v) = refl
-fills modified ws (valid shared us) (forStore w v) = refl
-fills modified ws (valid exclusive us) (forStore w v) = tt
-fills modified ws (valid modified us) (forStore w v) = tt
-fills shared ws c (forStore w v) = tt
-fills exclusive ws c (forStore w v) = tt
+fills r miss ws c nothing = tt
+fills shared miss ws invalid (forLoad w) = refl
+fills exclusive miss ws invalid (forLoad w) = refl
+fills modified miss ws invalid (forLoad w) = tt
+fills r miss ws (valid x us) (forLoad w) = tt
+fills modified miss ws invalid (forStore w v) = refl
+fills modified miss ws (valid shared us) (forStore w v) = refl
+fills modified miss ws (valid exclusive us) (forStore w v) = tt
+fills modified miss ws (valid modified us) (forStore w v) = tt
+fills shared miss ws c (forStore w v) = tt
+fills exclusive miss ws c (forStore w v) = tt
 
-receives : (m : Forward) (c : Cache) (p : Waiting) → Fills (receive m c p)
-unfolding receive
-receives (dataAck r miss ws) c p = fills r ws c p
-receives loadFwd invalid p = tt
+pub receives : (m : Forward) (c : Cache) (p : Waiting) → Fits m (receive m c p)
+unfolding receive forwardWeight
+receives (dataAck r miss ws) c p = fills r miss ws c p
+receives loadFwd invalid p = refl
 receives loadFwd (valid shared ws) p = tt
-receives loadFwd (valid exclusive ws) p = tt
-receives loadFwd (valid modified ws) p = tt
-receives storeFwd invalid p = tt
+receives loadFwd (valid exclusive ws) p = refl
+receives loadFwd (valid modified ws) p = refl
+receives storeFwd invalid p = refl
 receives storeFwd (valid shared ws) p = tt
-receives storeFwd (valid exclusive ws) p = tt
-receives storeFwd (valid modified ws) p = tt
-receives invFwd invalid p = tt
-receives invFwd (valid shared ws) p = tt
+receives storeFwd (valid exclusive ws) p = refl
+receives storeFwd (valid modified ws) p = refl
+receives invFwd invalid p = refl
+receives invFwd (valid shared ws) p = refl
 receives invFwd (valid exclusive ws) p = tt
 receives invFwd (valid modified ws) p = tt
 
-after-receiving : (u : ℕ) (r : Received) (c : Cache) (p : Waiting) (q1 : Queue Request) (q2 q : Queue Forward) (q3 : Queue Reply) → Fills r → TileEffect ending (tileOf c p q1 q2 q3) (received u r c p q1 q q3)
+after-receiving : (u : ℕ) (r : Received) (c : Cache) (p : Waiting) (q1 : Queue Request) (q2 q : Queue Forward) (q3 : Queue Reply) (m : Forward) → Fits m r → TileEffect ending (tileOf c p q1 q2 q3) (received u r c p q1 q q3)
 unfolding received isWaiting asks noc1 hasKind
-after-receiving u misfit c p q1 q2 q q3 f = refl
-after-receiving u (filled k v c′) c p q1 q2 q q3 f = record { waiting = rw f; asking = λ e. e }
-after-receiving u (Received.answered c′ a) c p q1 q2 q q3 f = record { waiting = waiting-alone p c c′ q1 q1 q2 q q3 q3; asking = λ e. e }
+after-receiving u misfit c p q1 q2 q q3 m f = refl
+after-receiving u (filled k v c′) c p q1 q2 q q3 m f = record { waiting = rw f; asking = λ e. e }
+after-receiving u (Received.answered c′ a) c p q1 q2 q q3 m f = record { waiting = waiting-alone p c c′ q1 q1 q2 q q3 q3; asking = λ e. e }
 
 delivered : (u : ℕ) (x : Tile) → TileEffect ending x (deliverTo u x)
 unfolding deliverTo
 delivered u (tileOf c p q1 empty q3) = refl
-delivered u (tileOf c p q1 (one m) q3) = after-receiving u (receive m c p) c p q1 (one m) empty q3 (receives m c p)
-delivered u (tileOf c p q1 (two m n) q3) = after-receiving u (receive m c p) c p q1 (two m n) (one n) q3 (receives m c p)
+delivered u (tileOf c p q1 (one m) q3) = after-receiving u (receive m c p) c p q1 (one m) empty q3 m (receives m c p)
+delivered u (tileOf c p q1 (two m n) q3) = after-receiving u (receive m c p) c p q1 (two m n) (one n) q3 m (receives m c p)
 
 -- A call c at tile u, whose rule is f.
 record At (c : Call) (u : ℕ) (g : Answer → Bool → Bool) : Type 0 where

@@ -4,3 +4,5 @@ pub mod Sent
 pub mod Effect
 pub mod Waiting
 pub mod Fair
+pub mod Falls
+pub mod Bounded
