@@ -2,21 +2,21 @@
 -- brings the last taken nearer to it in circle order.
 use Prim.Native.Nat.{ℕ, suc, _+_, _-_, _≤_, _<_}
 use mathlib.Core.Path.{_≡_, refl, sym, ap, _∙_, subst}
-use mathlib.Core.Bool.{Bool, cond, true, false, not, _&&_, false≢true}
+use mathlib.Core.Bool.{Bool, cond, true, false, not, false≢true}
 use mathlib.Core.List.{List, [], _∷_, _++_}
 use mathlib.Core.Logic.{_⊎_, _≢_, inl, inr}
 use mathlib.Core.Option.{Option, some, none}
 use native.Mathlib.Omega.{arith}
-use borrow.Author.Tests.{ltb-true, ltb-false, lt-ltb, le-ltb, eqb-true, eqb-false}
+use borrow.Author.Tests.{ltb-true, ltb-false, lt-ltb, le-ltb, eqb-false}
 use lib.Dec.{ltb, eqb}
-use lib.ListN.{length, getD, set, replicate, length-replicate, List·getD-eq-default}
-use Rattle.protocol.specs.Mask.{has, del}
-use Rattle.protocol.specs.Parts.{Words, Queue, empty, one, two, Access, reading, writing, Request, loadReq, storeReq, wbGuardReq, ToMemory, FromMemory, Message, Tile, tileOf, Line, Home, idle, awaitingLoad, awaitingOwner, awaitingAcks, awaitingStore, Bench, benchOf, Call, load, store, evict, taking, toTile, fromTile, memoryStep, memoryAck, homeEviction, Result, refused, accepted}
+use lib.ListN.{length, set, length-replicate, List·getD-eq-default}
+use Rattle.protocol.specs.Mask.{has}
+use Rattle.protocol.specs.Parts.{Words, empty, one, two, reading, writing, Request, loadReq, storeReq, wbGuardReq, Tile, tileOf, idle, awaitingLoad, awaitingOwner, awaitingAcks, awaitingStore, Bench, benchOf, Call, load, store, evict, taking, toTile, fromTile, memoryStep, memoryAck, homeEviction}
 use Rattle.protocol.specs.Home.{Move, move, range, serve}
 use Rattle.protocol.specs.Bench.{freshTile, fresh, tileAt, front, noc1, popNoc1, kindOf, circle, firstOf, eligible, arbitrate, served, take, takeFrom, takingOn, step}
 use Rattle.protocol.specs.Demand3.{after, runs, Answer, answer, answered, tilesOf, one-if, isRequest, requestAtFront, takes, takesAnother, passesOver, passedOver}
 use Rattle.protocol.proofs.Sent.{lastTaken, asks, on-posted}
-use Rattle.protocol.proofs.Effect.{lastAfter, Left, left}
+use Rattle.protocol.proofs.Effect.{lastAfter, left}
 
 -- how many of n tiles are strictly between l and t in circle order
 unfoldable pub between : ℕ → ℕ → ℕ → ℕ

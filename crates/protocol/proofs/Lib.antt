@@ -6,3 +6,4 @@ pub mod Waiting
 pub mod Fair
 pub mod Falls
 pub mod Bounded
+pub mod Beats

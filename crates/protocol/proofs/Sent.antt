@@ -2,14 +2,14 @@
 -- grows by no more than the messages weigh.
 use Prim.Native.Nat.{ℕ, suc, _+_, _≤_}
 use mathlib.Core.Path.{_≡_, refl, sym, _∙_, subst}
-use mathlib.Core.Bool.{Bool, true, false, false≢true}
+use mathlib.Core.Bool.{Bool, true, false≢true}
 use mathlib.Core.List.{List, [], _∷_}
 use mathlib.Core.Option.{Option, some, none, Option·map}
 use native.Mathlib.Omega.{arith}
-use lib.ListN.{length, getD, set, length-set}
+use lib.ListN.{length, set, length-set}
 use Rattle.protocol.specs.Parts.{Words, Queue, empty, one, two, Waiting, nothing, forLoad, forStore, Cache, Request, Forward, Reply, ToMemory, FromMemory, Message, onNoc1, onNoc2, onNoc3, toMemory, fromMemory, Tile, tileOf, Home, Bench, benchOf, Result, refused, accepted}
 use Rattle.protocol.specs.Bench.{freshTile, tileAt, push, front, noc1, onTile1, onTile2, onTile3, sendOne, sendTo, send, sent, posted}
-use Rattle.protocol.specs.Demand3.{isWaiting, tilesOf, isRequest, requestAtFront}
+use Rattle.protocol.specs.Demand3.{isWaiting, tilesOf, isRequest}
 use Rattle.protocol.proofs.Weight.{queueWeight, requestWeight, forwardWeight, replyWeight, outWeight, backWeight, tileWeight, tilesWeight, homeWeight, measure}
 
 unfoldable pub lastTaken : Bench → ℕ

@@ -1,12 +1,12 @@
 -- Waiting in the history of calls is waiting in the tile.
 use Prim.Native.Nat.{ℕ, suc}
 use mathlib.Core.Path.{_≡_, refl, sym, ap, _∙_}
-use mathlib.Core.Bool.{Bool, true, false}
+use mathlib.Core.Bool.{Bool, false}
 use mathlib.Core.List.{List, [], _∷_}
-use lib.ListN.{getD, replicate}
-use Rattle.protocol.specs.Parts.{Words, Tile, tileOf, Bench, benchOf, Call}
-use Rattle.protocol.specs.Bench.{freshTile, fresh, tileAt, step}
-use Rattle.protocol.specs.Demand3.{after, runs, answered, event, history, waitsAfter, waitsSince, waits, isWaiting, tilesOf}
+use lib.ListN.{replicate}
+use Rattle.protocol.specs.Parts.{Words, Bench, Call}
+use Rattle.protocol.specs.Bench.{freshTile, fresh, tileAt}
+use Rattle.protocol.specs.Demand3.{after, runs, history, waitsSince, waits, isWaiting, tilesOf}
 use Rattle.protocol.proofs.Effect.{left}
 
 -- tile t of a fresh bench, also past its end
