@@ -87,15 +87,20 @@ first-append f (x ∷ xs) ys = go (f x) (first-append f xs ys)
     go true h = refl
     go false h = h
 
+-- the search goes on from the tile after the last taken, and then from 0
+circle-first : (f : ℕ → Bool) (l n : ℕ) → firstOf f (circle l n) ≡ pick (firstOf f (range (suc l) (n - suc l))) (firstOf f (range 0 (suc l)))
+unfolding circle
+circle-first f l n = first-append f (range (suc l) (n - suc l)) (range 0 (suc l))
+
 -- the first in circle order after l that passes, where t passes: t, or nearer to t than l
 abbrev Nearer : ℕ → ℕ → ℕ → Option ℕ → Type 0
 Nearer n l t none = Unit {0}
 Nearer n l t (some u) = u ≢ t → between n u t < between n l t
 
 nearer : (f : ℕ → Bool) (n l t : ℕ) → f t ≡ true → l < n → t < n → Nearer n l t (firstOf f (circle l n))
-unfolding circle pick
+unfolding pick
 nearer f n l t ft lb tb =
-    subst (Nearer n l t) (sym (first-append f (range (suc l) (n - suc l)) (range 0 (suc l))))
+    rw (circle-first f l n)
     (go (firstOf f (range (suc l) (n - suc l))) (firstOf f (range 0 (suc l))) (first-range f t ft (n - suc l) (suc l)) (first-range f t ft (suc l) 0))
   where
     past : (u : ℕ) → suc l ≤ u → u < suc l + (n - suc l) → u ≢ t → (t < suc l) ⊎ (u ≤ t) → between n u t < between n l t
