@@ -160,7 +160,7 @@ choice (benchOf h l k mem out back ts) = arbitrate l k ts
 choice-below : (b : Bench) (v : ℕ) → choice b ≡ some v → v < length (tilesOf b)
 unfolding choice arbitrate tilesOf
 choice-below (benchOf h l k mem out back ts) v e =
-    eligible-below (has k v) ts v (subst (Passes (λ t. eligible (has k t) (tileAt ts t))) e (first-passes (λ t. eligible (has k t) (tileAt ts t)) (circle l (length ts))))
+    eligible-below (has k v) ts v (subst (Passes (λ t. eligible (has k t) (tileAt ts t))) e (first-passes (λ t. eligible (has k t) (tileAt ts t)) _))
 
 choice-nearer : (b : Bench) (t v : ℕ) → choice b ≡ some v → lastTaken b < length (tilesOf b) → asks (tileAt (tilesOf b) t) ≡ true → v ≢ t → between (length (tilesOf b)) v t < between (length (tilesOf b)) (lastTaken b) t
 unfolding choice arbitrate tilesOf lastTaken

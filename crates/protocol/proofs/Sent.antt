@@ -10,7 +10,7 @@ use lib.ListN.{length, set, length-set}
 use Rattle.protocol.specs.Parts.{Words, Queue, empty, one, two, Waiting, nothing, forLoad, forStore, Cache, Request, Forward, Reply, ToMemory, FromMemory, Message, onNoc1, onNoc2, onNoc3, toMemory, fromMemory, Tile, tileOf, Home, Bench, benchOf, Result, refused, accepted}
 use Rattle.protocol.specs.Bench.{freshTile, tileAt, push, front, noc1, onTile1, onTile2, onTile3, sendOne, sendTo, send, sent, posted}
 use Rattle.protocol.specs.Demand3.{isWaiting, tilesOf, isRequest}
-use Rattle.protocol.proofs.Weight.{queueWeight, requestWeight, forwardWeight, replyWeight, outWeight, backWeight, tileWeight, tilesWeight, homeWeight, measure}
+use Rattle.protocol.proofs.Weight.{queueWeight, requestWeight, forwardWeight, replyWeight, outWeight, backWeight, tileWeight, tilesWeight, measure}
 
 unfoldable pub lastTaken : Bench → ℕ
 lastTaken (benchOf h l k mem out back ts) = l
@@ -119,10 +119,6 @@ pub same-set : (h : Home) (l k : ℕ) (mem : Words) (out : Queue ToMemory) (back
 unfolding tilesOf lastTaken
 same-set h l k mem out back ts u x a = record { count = length-set ts u x; last = refl; tiles = λ t. set-related Alike alike ts u t x a }
 
-pub measure-set : (h : Home) (l k : ℕ) (mem : Words) (out : Queue ToMemory) (back : Queue FromMemory) (ts : List Tile) (u : ℕ) (x : Tile) → measure (benchOf h l k mem out back (set ts u x)) ≡ homeWeight h + queueWeight outWeight out + queueWeight backWeight back + tilesWeight (length ts) (set ts u x)
-unfolding measure
-measure-set h l k mem out back ts u x = rw (length-set ts u x)
-
 -- one message to tile u of a bench
 put-tile : (h : Home) (l k : ℕ) (mem : Words) (out : Queue ToMemory) (back : Queue FromMemory) (ts : List Tile) (u : ℕ) (m : Message) (o : Option Tile) → PutTo (length ts) (messageWeight (length ts) m) (tileAt ts u) o → SentTo (m ∷ []) (benchOf h l k mem out back ts) (Option·map (λ x. benchOf h l k mem out back (set ts u x)) o)
 unfolding tilesOf measure messagesWeight
@@ -130,11 +126,8 @@ put-tile h l k mem out back ts u m none s = tt
 put-tile h l k mem out back ts u m (some x) s =
     record {
       same = same-set h l k mem out back ts u x (s .still);
-      weight = weight-set;
+      weight = rw (length-set ts u x) (omega (arith, set-weight (length ts) ts u x 0 (messageWeight (length ts) m) (omega (arith, s .weight))));
     }
-  where
-    weight-set : measure (benchOf h l k mem out back (set ts u x)) ≤ messagesWeight (length ts) (m ∷ []) + measure (benchOf h l k mem out back ts)
-    weight-set = rw (measure-set h l k mem out back ts u x) (omega (arith, set-weight (length ts) ts u x 0 (messageWeight (length ts) m) (omega (arith, s .weight))))
 
 -- one message sent
 sent-one : (m : Message) (b : Bench) → SentTo (m ∷ []) b (sendOne m b)

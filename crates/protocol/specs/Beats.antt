@@ -22,13 +22,6 @@ pub data Check : Type 0 where
   homeWord : ℕ → ℕ → Check
   memoryWord : ℕ → ℕ → Check
 
--- what is seen of it
-pub data Sight : Type 0 where
-  anAnswer : Answer → Sight
-  anAnswerSending : Answer → List Message → Sight
-  aState : State → Sight
-  aWord : ℕ → Sight
-
 unfoldable pub stateOf : Tile → State
 stateOf (tileOf invalid p q1 q2 q3) = stateI
 stateOf (tileOf (valid shared ws) p q1 q2 q3) = stateS
@@ -56,22 +49,14 @@ unfoldable pub messagesOf : Result Bench → List Message
 messagesOf (refused n) = []
 messagesOf (accepted k v b ms) = ms
 
-unfoldable pub expected : List Check → List Sight
-expected [] = []
-expected (call c r ∷ cs) = anAnswer r ∷ expected cs
-expected (callSending c r ms ∷ cs) = anAnswerSending r ms ∷ expected cs
-expected (tileState t s ∷ cs) = aState s ∷ expected cs
-expected (homeWord w v ∷ cs) = aWord v ∷ expected cs
-expected (memoryWord w v ∷ cs) = aWord v ∷ expected cs
-
 -- each call is made on the bench that the last one left
-unfoldable pub seen : List Check → Bench → List Sight
-seen [] b = []
-seen (call c r ∷ cs) b = anAnswer (answered (step c b)) ∷ seen cs (after c b)
-seen (callSending c r ms ∷ cs) b = anAnswerSending (answered (step c b)) (messagesOf (step c b)) ∷ seen cs (after c b)
-seen (tileState t s ∷ cs) b = aState (stateOf (tileAt (tilesOf b) t)) ∷ seen cs b
-seen (homeWord w v ∷ cs) b = aWord (getD (homeWords (homeOf b)) w 0) ∷ seen cs b
-seen (memoryWord w v ∷ cs) b = aWord (getD (memoryOf b) w 0) ∷ seen cs b
+unfoldable pub Hold : List Check → Bench → Type 0
+Hold [] b = Unit {0}
+Hold (call c r ∷ cs) b = (answered (step c b) ≡ r) × Hold cs (after c b)
+Hold (callSending c r ms ∷ cs) b = (answered (step c b) ≡ r) × (messagesOf (step c b) ≡ ms) × Hold cs (after c b)
+Hold (tileState t s ∷ cs) b = (stateOf (tileAt (tilesOf b) t) ≡ s) × Hold cs b
+Hold (homeWord w v ∷ cs) b = (getD (homeWords (homeOf b)) w 0 ≡ v) × Hold cs b
+Hold (memoryWord w v ∷ cs) b = (getD (memoryOf b) w 0 ≡ v) × Hold cs b
 
 -- a line whose word 0 is v
 unfoldable pub word0 : ℕ → Words
@@ -141,4 +126,4 @@ beats =
 
 -- two tiles, memory word 0 = 7
 abbrev pub Beats-statement : Type 0
-Beats-statement = seen beats (fresh 2 (word0 7)) ≡ expected beats
+Beats-statement = Hold beats (fresh 2 (word0 7))
