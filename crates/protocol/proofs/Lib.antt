@@ -1,3 +1,13 @@
+-- Demand 3 over the rules. What needs no invariant:
+pub mod Weight
+pub mod Sent
+pub mod Effect
+pub mod Waiting
+pub mod Fair
+pub mod Falls
+pub mod Bounded
+pub mod Beats
+-- The invariant:
 pub mod Invariant
 pub mod TileSteps
 pub mod ViewSteps

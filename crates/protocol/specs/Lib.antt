@@ -4,3 +4,4 @@ pub mod Tile
 pub mod Home
 pub mod Bench
 pub mod Demand3
+pub mod Beats
