@@ -13,3 +13,4 @@ pub mod TileSteps
 pub mod ViewSteps
 pub mod Moves
 pub mod Calls
+pub mod Bound

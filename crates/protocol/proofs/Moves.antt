@@ -16,7 +16,7 @@ use Rattle.protocol.specs.Parts.{Words, Queue, empty, one, two, Access, 
 use Rattle.protocol.specs.Home.{Move, move, range, among, members, grantShared, grantOwner, ownRight, askedFor, askOwner, invalidateTo, invalidate, leave}
 use Rattle.protocol.specs.Bench.{freshTile, tileAt, push, onTile2, sendOne, sendTo, send, sent, posted, kindOf}
 use Rattle.protocol.proofs.Invariant.{Relation, stranger, sharer, owner, Askable, ask-load, ask-store, ask-inv, TileOk, AsksFor, asks-load, asks-store, asks-eviction, Apart, ApartFrom, Sees, sees-absent, sees-uncached, sees-sharer, sees-outsider, sees-owner, sees-unowning, loads, loads-not, asked-owner, requester, bystander, owing, storer, cleared-out, sees-leaving, LineOk, absent-ok, uncached-ok, shared-ok, owned-ok, CauseOk, ClearingOk, HomeOk, idle-ok, owner-ok, acks-ok, store-out, At, at, All, Inv, inv, Fine, fine}
-use Rattle.protocol.proofs.ViewSteps.{false-true, GrantFrom, Sent, sent-on, grant-owner, ShareFrom, grant-shared, ask-tile}
+use Rattle.protocol.proofs.ViewSteps.{false-true, GrantFrom, Placed, placed, grant-owner, ShareFrom, grant-shared, ask-tile}
 
 -- what is known of each tile
 abbrev pub Knowledge : Type 1
@@ -60,18 +60,18 @@ abbrev pub post : Move → ℕ → ℕ → ℕ → Words → Queue ToMemory → 
 post (move h ms) v l k mem out back ts = posted (kindOf ms) v ms (benchOf h l k mem out back ts)
 
 send-then : {n : ℕ} {P : Tile → Type 0} {m : Forward} (h : Home) (l k : ℕ) (mem : Words) (out : Queue ToMemory) (back : Queue FromMemory) (kd v : ℕ) (ts : List Tile) (all rest : List Message) (r : ℕ)
-    → Sent m (tileAt ts r) P
+    → Placed m (tileAt ts r) P
     → ((y : Tile) → P y → Fine n (sent kd v all (send rest (some (benchOf h l k mem out back (set ts r y))))))
     → Fine n (sent kd v all (send (onNoc2 r m ∷ rest) (some (benchOf h l k mem out back ts))))
 unfolding send sendTo sendOne
-send-then {n} h l k mem out back kd v ts all rest r (sent-on {y} e p) f =
+send-then {n} h l k mem out back kd v ts all rest r (placed {y} e p) f =
     subst
     (λ (o : Option Tile). Fine n (sent kd v all (send rest (Option·map (λ x. benchOf h l k mem out back (set ts r x)) o))))
     (sym e)
     (f y p)
 
 pub send-one : {n : ℕ} {P : Tile → Type 0} {m : Forward} (h : Home) (l k : ℕ) (mem : Words) (out : Queue ToMemory) (back : Queue FromMemory) (kd v : ℕ) (ts : List Tile) (r : ℕ)
-    → Sent m (tileAt ts r) P
+    → Placed m (tileAt ts r) P
     → ((y : Tile) → P y → Inv n (benchOf h l k mem out back (set ts r y)))
     → Fine n (posted kd v (onNoc2 r m ∷ []) (benchOf h l k mem out back ts))
 unfolding posted send sent
@@ -165,14 +165,14 @@ module _ (n v l k : ℕ) (mem : Words) (ts : List Tile) (len : length ts ≡ n) 
 
 -- ---- the invalidations, in rising order
 
-also : {m : Forward} {x : Tile} {P Q : Tile → Type 0} → ((y : Tile) → P y → Q y) → Sent m x P → Sent m x Q
-also f (sent-on {y} e p) = sent-on e (f y p)
+also : {m : Forward} {x : Tile} {P Q : Tile → Type 0} → ((y : Tile) → P y → Q y) → Placed m x P → Placed m x Q
+also f (placed {y} e p) = placed e (f y p)
 
 pub clash : {A : Type 0} {b : Bool} → b ≡ true → b ≡ false → A
 clash t f = false-true (sym f ∙ t)
 
 -- a tile that is owed is sent its invalidation, and no other is
-owed-sent : {k owed t m : ℕ} {d : Bool} {ws : Words} {c : Clearing} {x : Tile} → has owed t ≡ true → At k (ToClear owed c) t x → Sent invFwd x (At k (Sees (awaitingAcks d ws m owed c)) t)
+owed-sent : {k owed t m : ℕ} {d : Bool} {ws : Words} {c : Clearing} {x : Tile} → has owed t ≡ true → At k (ToClear owed c) t x → Placed invFwd x (At k (Sees (awaitingAcks d ws m owed c)) t)
 owed-sent h (at (to-owe e) q o) = also (λ y p. at (owing e) q p) (ask-tile ask-inv o)
 owed-sent h (at (to-store e) q o) = clash h e
 owed-sent h (at (to-pass e a) q o) = clash h e

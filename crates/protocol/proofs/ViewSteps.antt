@@ -55,34 +55,34 @@ pub data GrantFrom : Relation → Access → Type 0 where
   from-owner : {a : Access} → GrantFrom owner a
 
 -- the tile with the message on its NoC2
-pub data Sent (m : Forward) (x : Tile) (P : Tile → Type 0) : Type 0 where
-  sent-on : {y : Tile} → onTile2 m x ≡ some y → P y → Sent m x P
+pub data Placed (m : Forward) (x : Tile) (P : Tile → Type 0) : Type 0 where
+  placed : {y : Tile} → onTile2 m x ≡ some y → P y → Placed m x P
 
-pub grant-owner : {rel : Relation} {a : Access} {mark miss : Bool} {ws : Words} {x : Tile} → GrantFrom rel a → TileOk rel (some a) none mark x → Sent (dataAck (ownRight a) miss ws) x (TileOk owner none none mark)
+pub grant-owner : {rel : Relation} {a : Access} {mark miss : Bool} {ws : Words} {x : Tile} → GrantFrom rel a → TileOk rel (some a) none mark x → Placed (dataAck (ownRight a) miss ws) x (TileOk owner none none mark)
 unfolding onTile2 push ownRight
-grant-owner from-stranger (ok stranger-plain loadCurrent) = sent-on refl (ok (owner-plain not-asked sent-E) exclusiveGranted)
-grant-owner from-stranger (ok stranger-plain (storeCurrent k)) = sent-on refl (ok (owner-plain not-asked (sent-M k)) (modifiedGranted k))
-grant-owner from-sharer (ok (sharer-plain not-asked c s) (storeCurrent k)) = sent-on refl (ok (owner-plain not-asked (sent-M k)) (modifiedGranted k))
-grant-owner from-owner (ok (owner-plain not-asked o) loadCurrent) = sent-on refl (ok (owner-plain not-asked sent-E) exclusiveGranted)
-grant-owner from-owner (ok (owner-plain not-asked o) (storeCurrent k)) = sent-on refl (ok (owner-plain not-asked (sent-M k)) (modifiedGranted k))
+grant-owner from-stranger (ok stranger-plain loadCurrent) = placed refl (ok (owner-plain not-asked sent-E) exclusiveGranted)
+grant-owner from-stranger (ok stranger-plain (storeCurrent k)) = placed refl (ok (owner-plain not-asked (sent-M k)) (modifiedGranted k))
+grant-owner from-sharer (ok (sharer-plain not-asked c s) (storeCurrent k)) = placed refl (ok (owner-plain not-asked (sent-M k)) (modifiedGranted k))
+grant-owner from-owner (ok (owner-plain not-asked o) loadCurrent) = placed refl (ok (owner-plain not-asked sent-E) exclusiveGranted)
+grant-owner from-owner (ok (owner-plain not-asked o) (storeCurrent k)) = placed refl (ok (owner-plain not-asked (sent-M k)) (modifiedGranted k))
 
 -- a grant of S
 pub data ShareFrom : Relation → Type 0 where
   share-stranger : ShareFrom stranger
   share-sharer : ShareFrom sharer
 
-pub grant-shared : {rel : Relation} {mark miss : Bool} {ws : Words} {x : Tile} → ShareFrom rel → TileOk rel (some reading) none mark x → Sent (dataAck shared miss ws) x (TileOk sharer none none mark)
+pub grant-shared : {rel : Relation} {mark miss : Bool} {ws : Words} {x : Tile} → ShareFrom rel → TileOk rel (some reading) none mark x → Placed (dataAck shared miss ws) x (TileOk sharer none none mark)
 unfolding onTile2 push
-grant-shared share-stranger (ok stranger-plain loadCurrent) = sent-on refl (ok (sharer-plain not-asked weak-I shared-data) sharedGranted)
-grant-shared share-sharer (ok (sharer-plain not-asked c s) loadCurrent) = sent-on refl (ok (sharer-plain not-asked weak-I shared-data) sharedGranted)
+grant-shared share-stranger (ok stranger-plain loadCurrent) = placed refl (ok (sharer-plain not-asked weak-I shared-data) sharedGranted)
+grant-shared share-sharer (ok (sharer-plain not-asked c s) loadCurrent) = placed refl (ok (sharer-plain not-asked weak-I shared-data) sharedGranted)
 
 -- a forward or an invalidation
-pub ask-tile : {rel : Relation} {mark : Bool} {f : Forward} {x : Tile} → Askable rel none (some f) → TileOk rel none none mark x → Sent f x (TileOk rel none (some f) mark)
-ask-tile {f} ask-load (ok (owner-plain {d} not-asked o) e) = sent-on (on2 d f) (ok (owner-plain ask-load o) e)
-ask-tile {f} ask-load (ok (owner-out not-asked) e) = sent-on (on2 none f) (ok (owner-out ask-load) e)
-ask-tile {f} ask-store (ok (owner-plain {d} not-asked o) e) = sent-on (on2 d f) (ok (owner-plain ask-store o) e)
-ask-tile {f} ask-store (ok (owner-out not-asked) e) = sent-on (on2 none f) (ok (owner-out ask-store) e)
-ask-tile {f} ask-inv (ok (sharer-plain {d} not-asked c s) e) = sent-on (on2 d f) (ok (sharer-plain ask-inv c s) e)
+pub ask-tile : {rel : Relation} {mark : Bool} {f : Forward} {x : Tile} → Askable rel none (some f) → TileOk rel none none mark x → Placed f x (TileOk rel none (some f) mark)
+ask-tile {f} ask-load (ok (owner-plain {d} not-asked o) e) = placed (on2 d f) (ok (owner-plain ask-load o) e)
+ask-tile {f} ask-load (ok (owner-out not-asked) e) = placed (on2 none f) (ok (owner-out ask-load) e)
+ask-tile {f} ask-store (ok (owner-plain {d} not-asked o) e) = placed (on2 d f) (ok (owner-plain ask-store o) e)
+ask-tile {f} ask-store (ok (owner-out not-asked) e) = placed (on2 none f) (ok (owner-out ask-store) e)
+ask-tile {f} ask-inv (ok (sharer-plain {d} not-asked c s) e) = placed (on2 d f) (ok (sharer-plain ask-inv c s) e)
 
 -- a requester that is no sharer may count as one: it is in I
 pub as-sharer : {a : Access} {mark : Bool} {x : Tile} → TileOk stranger (some a) none mark x → TileOk sharer (some a) none mark x
