@@ -74,7 +74,7 @@ at-word {t} {P} {r} w k = go (ltb w 8)
 
 -- ---- taking
 
-firstOf-true : (f : ℕ → Bool) (us : List ℕ) (t : ℕ) → firstOf f us ≡ some t → f t ≡ true
+pub firstOf-true : (f : ℕ → Bool) (us : List ℕ) (t : ℕ) → firstOf f us ≡ some t → f t ≡ true
 unfolding firstOf
 firstOf-true f [] t e = let z : _≡_ {A = ℕ} 0 1 = cc in absurd (omega arith)
 firstOf-true f (u ∷ us) t e = go (f u) refl e (firstOf-true f us t)
@@ -84,7 +84,7 @@ firstOf-true f (u ∷ us) t e = go (f u) refl e (firstOf-true f us t)
     go false q e next = next e
 
 -- a tile that is not there cannot be taken
-eligible-lt : (ts : List Tile) (b : Bool) (t : ℕ) → eligible b (tileAt ts t) ≡ true → t < length ts
+pub eligible-lt : (ts : List Tile) (b : Bool) (t : ℕ) → eligible b (tileAt ts t) ≡ true → t < length ts
 unfolding eligible
 eligible-lt ts b t e = go (ltb t (length ts)) refl
   where
@@ -93,7 +93,7 @@ eligible-lt ts b t e = go (ltb t (length ts)) refl
     go false q = false-true (subst (λ (x : Tile). eligible b x ≡ true) (List·getD-eq-default ts freshTile (ltb-false t (length ts) q)) e)
 
 -- an idle home acts for nobody and has asked nothing
-at-rest : {x : Line} {t : ℕ} {rel : Relation} {cur : Option Access} {ask : Option Forward} {mark : Bool} {y : Tile} → Sees (idle x) t rel cur ask → TileOk rel cur ask mark y → (Sees (idle x) t rel none none) × (TileOk rel none none mark y)
+pub at-rest : {x : Line} {t : ℕ} {rel : Relation} {cur : Option Access} {ask : Option Forward} {mark : Bool} {y : Tile} → Sees (idle x) t rel cur ask → TileOk rel cur ask mark y → (Sees (idle x) t rel none none) × (TileOk rel none none mark y)
 at-rest sees-absent o = (sees-absent, o)
 at-rest sees-uncached o = (sees-uncached, o)
 at-rest (sees-sharer h) o = (sees-sharer h, o)

@@ -14,3 +14,4 @@ pub mod ViewSteps
 pub mod Moves
 pub mod Calls
 pub mod Bound
+pub mod Quiet
