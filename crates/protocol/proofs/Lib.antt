@@ -15,3 +15,5 @@ pub mod Moves
 pub mod Calls
 pub mod Bound
 pub mod Quiet
+-- All together:
+pub mod Theorem
