@@ -5,13 +5,13 @@ use mathlib.Core.Path.{_≡_, refl, sym, subst, ap, _∙_}
 use mathlib.Core.Bool.{Bool}
 use mathlib.Core.List.{List, [], _∷_}
 use mathlib.Core.Option.{Option, some, none}
-use native.Mathlib.Nat.{add-mul, mul-add, one-mul, zero-mul, suc-mul}
+use native.Mathlib.Nat.{add-mul, mul-add, one-mul, suc-mul}
 use native.Mathlib.Omega.{arith}
-use lib.ListN.{length, getD}
-use Rattle.protocol.specs.Parts.{Words, Queue, empty, one, two, Access, reading, writing, Cache, Waiting, Request, loadReq, storeReq, wbGuardReq, Forward, loadFwd, storeFwd, invFwd, dataAck, Reply, Tile, tileOf, Directory, uncached, sharedBy, ownedBy, Line, absent, present, Cause, request, eviction, Clearing, clearForStore, clearForEviction, Home, idle, awaitingLoad, awaitingOwner, awaitingAcks, awaitingStore, Bench, benchOf}
-use Rattle.protocol.specs.Bench.{freshTile, tileAt}
+use lib.ListN.{length}
+use Rattle.protocol.specs.Parts.{Words, Access, Cache, Waiting, Request, Forward, Reply, Tile, uncached, sharedBy, ownedBy, absent, present, Cause, request, eviction, Clearing, clearForStore, clearForEviction, Home, idle, awaitingLoad, awaitingOwner, awaitingAcks, awaitingStore, Bench}
+use Rattle.protocol.specs.Bench.{tileAt}
 use Rattle.protocol.proofs.Weight.{queueWeight, requestWeight, forwardWeight, replyWeight, outWeight, backWeight, tileWeight, tilesWeight, causeWeight, clearingWeight, homeWeight, measure}
-use Rattle.protocol.proofs.Invariant.{Relation, stranger, sharer, owner, join, Wants, resting, loadQueued, storeQueued, loadCurrent, storeCurrent, sharedGranted, exclusiveGranted, modifiedGranted, Askable, not-asked, ask-load, ask-store, ask-inv, Table, stranger-plain, stranger-in, sharer-plain, sharer-replied, owner-plain, owner-replied, owner-shared, owner-out, owner-out-replied, owner-in, owner-in-replied, TileOk, ok, Sees, sees-absent, sees-uncached, sees-sharer, sees-outsider, sees-owner, sees-unowning, loads, loads-not, asked-owner, requester, bystander, owing, storer, cleared-out, sees-leaving, LineOk, absent-ok, uncached-ok, shared-ok, owned-ok, HomeOk, idle-ok, load-out, load-back, owner-ok, acks-ok, store-out, store-back, At, at, All, Inv, inv}
+use Rattle.protocol.proofs.Invariant.{Relation, stranger, sharer, owner, join, Wants, resting, loadQueued, storeQueued, loadCurrent, storeCurrent, sharedGranted, exclusiveGranted, modifiedGranted, not-asked, ask-load, ask-store, ask-inv, Table, stranger-plain, stranger-in, sharer-plain, sharer-replied, owner-plain, owner-replied, owner-shared, owner-out, owner-out-replied, owner-in, owner-in-replied, TileOk, ok, Sees, sees-absent, sees-uncached, sees-sharer, sees-outsider, sees-owner, sees-unowning, loads, loads-not, asked-owner, requester, bystander, owing, storer, cleared-out, sees-leaving, absent-ok, uncached-ok, shared-ok, owned-ok, idle-ok, load-out, load-back, owner-ok, acks-ok, store-out, store-back, At, at, All, Inv, inv}
 
 -- ---- one tile
 
@@ -173,6 +173,6 @@ measure-bound {n} le (inv {h} {k} {ts} len (idle-ok (owned-ok {o} lo)) all) = om
 measure-bound {n} le (inv {h} {k} {ts} len (load-out lt) all) = omega (arith, rows n, weigh n k h ts len all)
 measure-bound {n} le (inv {h} {k} {ts} len (load-back lt) all) = omega (arith, rows n, weigh n k h ts len all)
 measure-bound {n} le (inv {h} {k} {ts} len (owner-ok {o} {c} lt cok) all) = omega (arith, rows n, cause-weight c, weigh-but n k h ts len all o (λ u ne rel cur ask s. not-the-asked ne s))
-measure-bound {n} le (inv {h} {k} {ts} len (acks-ok {c} lo ne cok) all) = omega (arith, rows n, clearing-weight c, weigh n k h ts len all)
+measure-bound {n} le (inv {h} {k} {ts} len (acks-ok {c} lo ne sub cok) all) = omega (arith, rows n, clearing-weight c, weigh n k h ts len all)
 measure-bound {n} le (inv {h} {k} {ts} len store-out all) = omega (arith, rows n, weigh n k h ts len all)
 measure-bound {n} le (inv {h} {k} {ts} len store-back all) = omega (arith, rows n, weigh n k h ts len all)

@@ -1,26 +1,27 @@
 -- Every call keeps the invariant, and is never refused by 8 or 9.
-use Prim.Native.Nat.{ℕ, zero, suc, _+_, _≤_, _<_, _^_}
+use Prim.Native.Nat.{ℕ, _<_, _^_}
 use mathlib.Core.Path.{_≡_, refl, sym, subst, ap, _∙_}
-use mathlib.Core.Bool.{Bool, true, false, cond}
-use mathlib.Core.List.{List, [], _∷_, map}
+use mathlib.Core.Bool.{Bool, true, false}
+use mathlib.Core.List.{List, [], _∷_}
 use mathlib.Core.Option.{Option, some, none, Option·map}
 use native.Mathlib.Omega.{arith}
 use lib.Dec.{eqb, ltb}
-use lib.ListN.{length, getD, set, length-set, List·getD-eq-default}
+use lib.ListN.{length, set, length-set}
 use lib.Pow.{pow-pos}
 use lib.Seq.{getD-set-same, set-set}
-use borrow.Author.Tests.{eqb-true, eqb-false, eq-eqb, ne-eqb, ltb-true, ltb-false}
+use borrow.Author.Tests.{eqb-true, eqb-false, ne-eqb, ltb-true}
 use Rattle.bits.specs.Mask.{has, add, del}
 use Rattle.bits.proofs.MaskLaws.{has-add, has-add-other, has-del, has-del-other, has-none, add-lt, del-lt}
-use Rattle.protocol.specs.Parts.{Words, Queue, empty, one, two, Access, reading, writing, Right, shared, exclusive, modified, Request, loadReq, storeReq, wbGuardReq, Forward, loadFwd, storeFwd, invFwd, dataAck, Reply, wbReq, loadFwdAckS, loadFwdAckI, storeFwdAck, invFwdAck, ToMemory, loadMem, storeMem, FromMemory, loadMemAck, storeMemAck, Message, onNoc1, onNoc2, onNoc3, toMemory, fromMemory, Tile, tileOf, Directory, uncached, sharedBy, ownedBy, Line, absent, present, Cause, request, eviction, Clearing, clearForStore, clearForEviction, Home, idle, awaitingLoad, awaitingOwner, awaitingAcks, awaitingStore, Bench, benchOf, Call, load, store, evict, taking, toTile, fromTile, memoryStep, memoryAck, homeEviction, Result, refused, accepted}
+use Rattle.protocol.specs.Parts.{Words, Queue, empty, Access, reading, writing, Request, Forward, Reply, ToMemory, FromMemory, onNoc1, onNoc3, Tile, uncached, sharedBy, ownedBy, Line, absent, present, Cause, request, eviction, Clearing, clearForStore, clearForEviction, Home, idle, awaitingLoad, awaitingOwner, awaitingAcks, awaitingStore, Bench, benchOf, Call, load, store, evict, taking, toTile, fromTile, memoryStep, memoryAck, homeEviction, Result}
 use Rattle.protocol.specs.Tile.{loadAt, storeAt, evictAt, deliverTo}
-use Rattle.protocol.specs.Home.{Move, move, members, grantShared, grantOwner, ownRight, askOwner, invalidateTo, invalidate, leave, serve, writeBack, wordsAfter, dirtyAfter, loadAckS, loadAckI, storeAck, cleared, invAck, acknowledged, evictLine}
-use Rattle.protocol.specs.Bench.{freshTile, tileAt, push, front, rest, onTile1, onTile2, onTile3, sendOne, sendTo, send, sent, posted, kindOf, settle, atTile, atWord, firstOf, eligible, arbitrate, noc1, popNoc1, served, take, takeFrom, takingOn, noc3, popNoc3, writtenBack, moved, accept, fromTileOn, memoryServes, memoryStepOn, acceptAck, memoryAckOn, homeEvictionOn, step}
-use Rattle.protocol.specs.Demand3.{answer, isMisfit}
-use Rattle.protocol.proofs.Invariant.{Relation, stranger, sharer, owner, TileOk, AsksFor, asks-load, asks-store, asks-eviction, Apart, apart-request, apart-eviction, ApartFrom, apart-store, apart-clearing, Sees, sees-absent, sees-uncached, sees-sharer, sees-outsider, sees-owner, sees-unowning, loads, loads-not, asked-owner, requester, bystander, owing, storer, cleared-out, sees-leaving, LineOk, absent-ok, uncached-ok, shared-ok, owned-ok, CauseOk, request-ok, eviction-ok, ClearingOk, store-ok, clearing-ok, HomeOk, idle-ok, load-out, load-back, owner-ok, acks-ok, store-out, store-back, At, at, All, Inv, inv, Fine, fine-refused, fine}
+use Rattle.protocol.specs.Home.{Move, move, grantShared, grantOwner, ownRight, askOwner, invalidate, leave, serve, writeBack, wordsAfter, dirtyAfter, loadAckS, loadAckI, storeAck, cleared, invAck, acknowledged, evictLine}
+use Rattle.protocol.specs.Bench.{freshTile, tileAt, push, front, rest, onTile1, onTile3, sendOne, sendTo, send, sent, posted, kindOf, settle, atTile, atWord, eligible, arbitrate, popNoc1, served, take, takeFrom, takingOn, noc3, popNoc3, writtenBack, moved, accept, fromTileOn, memoryServes, memoryStepOn, acceptAck, memoryAckOn, homeEvictionOn, step}
+use Rattle.protocol.specs.Demand3.{isMisfit}
+use Rattle.protocol.proofs.Tests.{clash, by-test, if-true, if-false, eqb-same, at-or-not, firstOf-true, there}
+use Rattle.protocol.proofs.Invariant.{Relation, stranger, sharer, owner, TileOk, AsksFor, asks-load, asks-store, asks-eviction, Apart, apart-request, apart-eviction, ApartFrom, apart-store, apart-clearing, Sees, sees-absent, sees-uncached, sees-sharer, sees-outsider, sees-owner, sees-unowning, loads, loads-not, asked-owner, requester, bystander, owing, storer, cleared-out, sees-leaving, LineOk, absent-ok, uncached-ok, shared-ok, owned-ok, CauseOk, request-ok, eviction-ok, ClearingOk, store-ok, clearing-ok, Inside, HomeOk, idle-ok, load-out, load-back, owner-ok, acks-ok, store-out, store-back, At, at, All, Inv, inv, Fine, fine-refused, fine}
 use Rattle.protocol.proofs.TileSteps.{Kept, kept-refused, kept-silent, kept-request, kept-reply, kept-write-back, load-kept, store-kept, evict-kept, deliver-kept}
-use Rattle.protocol.proofs.ViewSteps.{false-true, Front1, guard-front, load-front, store-front, front1, GrantFrom, from-stranger, from-sharer, from-owner, ShareFrom, share-stranger, share-sharer, as-sharer, Front3, no-front, wb-idle, wb-asked, ack-shared, ack-invalid, ack-store, ack-inv, front3}
-use Rattle.protocol.proofs.Moves.{Knowledge, same-tile, other-tile, each-tile, carry, Exactly, exactly, Alone, post, clash, Grantee, grantee, Sharee, sharee, Beside, asker, beside, ToClear, to-owe, to-store, to-pass, grantOwner-fine, grantShared-fine, askOwner-fine, leave-fine, invalidate-fine}
+use Rattle.protocol.proofs.ViewSteps.{Front1, guard-front, load-front, store-front, front1, GrantFrom, from-stranger, from-sharer, from-owner, ShareFrom, share-stranger, share-sharer, as-sharer, Front3, no-front, wb-idle, wb-asked, ack-shared, ack-invalid, ack-store, ack-inv, front3}
+use Rattle.protocol.proofs.Moves.{Knowledge, same-tile, other-tile, each-tile, carry, Exactly, exactly, Alone, post, Grantee, grantee, Sharee, sharee, Beside, asker, beside, ToClear, to-owe, to-store, to-pass, grantOwner-fine, grantShared-fine, askOwner-fine, leave-fine, invalidate-fine}
 
 -- ---- the calls at one tile
 
@@ -52,7 +53,10 @@ Keeps t f = (rel : Relation) (cur : Option Access) (ask : Option Forward) (mark 
 
 at-tile-fine : {n : ℕ} {b : Bench} (t : ℕ) (f : Tile → Result Tile) → Keeps t f → Inv n b → Fine n (atTile t f b)
 unfolding atTile isMisfit
-at-tile-fine {n} t f keeps (inv {h} {l} {k} {mem} {out} {back} {ts} len hok all) = go (ltb t (length ts)) refl
+at-tile-fine {n} t f keeps (inv {h} {l} {k} {mem} {out} {back} {ts} len hok all) =
+    by-test (Fine n) (ltb t (length ts)) _ _
+    (λ e. let lt : t < length ts = ltb-true t (length ts) e in here lt (all t (omega arith)))
+    (λ e. fine-refused refl)
   where
     here : t < length ts → At k (Sees h) t (tileAt ts t) → Fine n (settle t (benchOf h l k mem out back ts) (f (tileAt ts t)))
     here lt (at {rel} {cur} {ask} {mark} s m o) =
@@ -60,37 +64,16 @@ at-tile-fine {n} t f keeps (inv {h} {l} {k} {mem} {out} {back} {ts} len hok all)
         (λ y p. inv (length-set ts t y ∙ len) hok (each-tile ts t y (At k (Sees h)) len (λ u lu ne. all u lu) (at s m p)))
         (keeps rel cur ask mark (tileAt ts t) o)
 
-    go : (b : Bool) → ltb t (length ts) ≡ b → Fine n (cond b (settle t (benchOf h l k mem out back ts) (f (tileAt ts t))) (refused 2))
-    go true e = let lt : t < length ts = ltb-true t (length ts) e in here lt (all t (omega arith))
-    go false e = fine-refused refl
-
 at-word : {t : ℕ} {P : Tile → Type 0} {r : Result Tile} (w : ℕ) → Kept t P r → Kept t P (atWord w r)
 unfolding atWord isMisfit
-at-word {t} {P} {r} w k = go (ltb w 8)
-  where
-    go : (b : Bool) → Kept t P (cond b r (refused 3))
-    go true = k
-    go false = kept-refused refl
+at-word {t} {P} w k = by-test (Kept t P) (ltb w 8) _ _ (λ e. k) (λ e. kept-refused refl)
 
 -- ---- taking
 
-pub firstOf-true : (f : ℕ → Bool) (us : List ℕ) (t : ℕ) → firstOf f us ≡ some t → f t ≡ true
-unfolding firstOf
-firstOf-true f [] t e = let z : _≡_ {A = ℕ} 0 1 = cc in absurd (omega arith)
-firstOf-true f (u ∷ us) t e = go (f u) refl e (firstOf-true f us t)
-  where
-    go : (b : Bool) → f u ≡ b → cond b (some u) (firstOf f us) ≡ some t → (firstOf f us ≡ some t → f t ≡ true) → f t ≡ true
-    go true q e next = let z : u ≡ t = cc in subst (λ (x : ℕ). f x ≡ true) z q
-    go false q e next = next e
-
 -- a tile that is not there cannot be taken
-pub eligible-lt : (ts : List Tile) (b : Bool) (t : ℕ) → eligible b (tileAt ts t) ≡ true → t < length ts
+eligible-lt : (ts : List Tile) (b : Bool) (t : ℕ) → eligible b (tileAt ts t) ≡ true → t < length ts
 unfolding eligible
-eligible-lt ts b t e = go (ltb t (length ts)) refl
-  where
-    go : (x : Bool) → ltb t (length ts) ≡ x → t < length ts
-    go true q = ltb-true t (length ts) q
-    go false q = false-true (subst (λ (x : Tile). eligible b x ≡ true) (List·getD-eq-default ts freshTile (ltb-false t (length ts) q)) e)
+eligible-lt ts b t = there (eligible b) ts t refl
 
 -- an idle home acts for nobody and has asked nothing
 pub at-rest : {x : Line} {t : ℕ} {rel : Relation} {cur : Option Access} {ask : Option Forward} {mark : Bool} {y : Tile} → Sees (idle x) t rel cur ask → TileOk rel cur ask mark y → (Sees (idle x) t rel none none) × (TileOk rel none none mark y)
@@ -133,8 +116,9 @@ shared-owed {t} {m} {r} ne rel cur ask (sees-outsider h) = to-pass (has-del-othe
 last-gone : (m r t : ℕ) → del m r ≡ 0 → (r ≡ t → ⊥) → has m t ≡ false
 last-gone m r t e ne = sym (has-del-other m r t ne) ∙ ap (λ (x : ℕ). has x t) e ∙ has-none t
 
-eqb-same : (t : ℕ) → eqb t t ≡ true
-eqb-same t = eq-eqb t t refl
+-- what is left of a mask is in it
+del-inside : (m t : ℕ) → Inside (del m t) m
+del-inside m t u = at-or-not (λ (z : ℕ). has (del m t) z ≡ true → has m z ≡ true) t u (λ q. clash q (has-del m t)) (λ ne q. sym (has-del-other m t u ne) ∙ q)
 
 -- a request of tile t is served: y is that tile without it
 module _ (n k t : ℕ) (mem : Words) (ts : List Tile) (y : Tile) (len : length ts ≡ n) (lt : t < n) where
@@ -153,31 +137,27 @@ module _ (n k t : ℕ) (mem : Words) (ts : List Tile) (y : Tile) (len : length t
   -- a store of a line in S: y is shown as a sharer for the invalidations
   store-shared : {rel : Relation} {m : ℕ} {d : Bool} {ws : Words} → GrantFrom rel writing → TileOk rel (some writing) none false y → TileOk sharer (some writing) none false y → has k t ≡ false → m < 2 ^ n → All n k (Sees (idle (present d ws (sharedBy m)))) ts
       → Fine n (served t (serve n t writing (present d ws (sharedBy m))) k mem empty empty left)
-  unfolding served serve grantOwner invalidate ownRight posted
-  store-shared {m} {d} {ws} g p q e lm all = go (eqb (del m t) 0) refl
-    where
-      go : (b : Bool) → eqb (del m t) 0 ≡ b → Fine n (served t (cond b (grantOwner d ws modified false t) (invalidate n d ws m (del m t) (clearForStore t))) k mem empty empty left)
-      go true z =
-          grantOwner-fine n t t k mem left left-length d ws false t lt (here (at (grantee g) e p))
-          (others (λ u ne. unshared-alone (last-gone m t u (eqb-true (del m t) 0 z) ne)) all)
-      go false z =
-          invalidate-fine n t t k mem (kindOf (map invalidateTo (members (del m t) n))) (map invalidateTo (members (del m t) n)) d ws m (del m t) (clearForStore t) left left-length
-          (del-lt n m t lm) (eqb-false (del m t) 0 z) (store-ok lt (has-del m t))
-          (each-tile ts t y (At k (ToClear (del m t) (clearForStore t))) len (λ u lu ne. carry refl (shared-owed ne) (all u lu)) (at (to-store (has-del m t)) e q))
+  unfolding served serve grantOwner invalidate ownRight
+  store-shared {m} {d} {ws} g p q e lm all =
+      by-test (λ (x : Move). Fine n (served t x k mem empty empty left)) (eqb (del m t) 0) _ _
+      (λ z. grantOwner-fine n t t k mem left left-length d ws false t lt (here (at (grantee g) e p))
+      (others (λ u ne. unshared-alone (last-gone m t u (eqb-true (del m t) 0 z) ne)) all))
+      (λ z. invalidate-fine n t t k mem left left-length d ws m (del m t) (clearForStore t) (del-lt n m t lm) (eqb-false (del m t) 0 z) (del-inside m t) (store-ok lt (has-del m t))
+      (each-tile ts t y (At k (ToClear (del m t) (clearForStore t))) len (λ u lu ne. carry refl (shared-owed ne) (all u lu)) (at (to-store (has-del m t)) e q)))
 
   -- a line in E: the tile's own, or another's
   own-line : {a : Access} {d : Bool} {ws : Words} → TileOk owner (some a) none false y → has k t ≡ false → All n k (Sees (idle (present d ws (ownedBy t)))) ts
       → Fine n (served t (serve n t a (present d ws (ownedBy t))) k mem empty empty left)
   unfolding served serve grantOwner
   own-line {a} {d} {ws} p e all =
-      subst (λ (b : Bool). Fine n (served t (cond b (grantOwner d ws (ownRight a) false t) (askOwner d ws t (request t a))) k mem empty empty left)) (sym (eqb-same t))
+      if-true (λ (x : Move). Fine n (served t x k mem empty empty left)) _ _ (eqb-same t)
       (grantOwner-fine n t t k mem left left-length d ws false t lt (here (at (grantee from-owner) e p)) (others (λ u ne. unowned-alone ne) all))
 
   anothers-line : {a : Access} {d : Bool} {ws : Words} {o : ℕ} → (o ≡ t → ⊥) → o < n → TileOk stranger (some a) none false y → has k t ≡ false → All n k (Sees (idle (present d ws (ownedBy o)))) ts
       → Fine n (served t (serve n t a (present d ws (ownedBy o))) k mem empty empty left)
   unfolding served serve askOwner
   anothers-line {a} {d} {ws} {o} nt lo p e all =
-      subst (λ (b : Bool). Fine n (served t (cond b (grantOwner d ws (ownRight a) false t) (askOwner d ws o (request t a))) k mem empty empty left)) (sym (ne-eqb o t nt))
+      if-false (λ (x : Move). Fine n (served t x k mem empty empty left)) _ _ (ne-eqb o t nt)
       (askOwner-fine n t t k mem left left-length d ws o (request t a) lo (request-ok lt nt)
       (other-tile ts t y (At k (Exactly owner none none) o) o (λ q. nt (sym q)) (carry refl (the-owner refl) (all o lo)))
       (each-tile ts t y (λ u x. (o ≡ u → ⊥) → At k (Beside (request t a)) u x) len
@@ -229,7 +209,7 @@ taking-fine {n} (inv {l} {k} {mem} {ts} len (idle-ok {l = x} lok) all) = go (arb
 taking-fine (inv len (load-out lt) all) = fine-refused refl
 taking-fine (inv len (load-back lt) all) = fine-refused refl
 taking-fine (inv len (owner-ok lt c) all) = fine-refused refl
-taking-fine (inv len (acks-ok lo ne c) all) = fine-refused refl
+taking-fine (inv len (acks-ok lo ne sub c) all) = fine-refused refl
 taking-fine (inv len store-out all) = fine-refused refl
 taking-fine (inv len store-back all) = fine-refused refl
 
@@ -310,7 +290,7 @@ module _ (n l k t : ℕ) (mem : Words) (ts : List Tile) (y : Tile) (len : length
   unfolding writtenBack writeBack
   wb-idle-fine {d} {us} ws p e all =
       subst (λ (b : Bool). Fine n (writtenBack t (writeBack t ws b (idle (present d us (ownedBy t)))) l k mem empty empty gone)) (sym e)
-      (subst (λ (b : Bool). Fine n (writtenBack t (cond b (some (idle (present true ws uncached))) none) l k mem empty empty gone)) (sym (eqb-same t))
+      (if-true (λ (x : Option Home). Fine n (writtenBack t x l k mem empty empty gone)) _ _ (eqb-same t)
       (fine (inv gone-length (idle-ok uncached-ok)
       (each-tile ts t y (At (add k t) (Sees (idle (present true ws uncached)))) len (λ u lu ne. carry (has-add-other k t u ne) (owned-uncached ne) (all u lu)) (at sees-uncached (has-add k t) p)))))
 
@@ -319,7 +299,7 @@ module _ (n l k t : ℕ) (mem : Words) (ts : List Tile) (y : Tile) (len : length
   unfolding writtenBack writeBack
   wb-asked-fine {d} {us} {c} ws a p e cok all =
       subst (λ (b : Bool). Fine n (writtenBack t (writeBack t ws b (awaitingOwner d us t c)) l k mem empty empty gone)) (sym e)
-      (subst (λ (b : Bool). Fine n (writtenBack t (cond b (some (awaitingOwner true ws t c)) none) l k mem empty empty gone)) (sym (eqb-same t))
+      (if-true (λ (x : Option Home). Fine n (writtenBack t x l k mem empty empty gone)) _ _ (eqb-same t)
       (fine (inv gone-length (owner-ok lt cok)
       (each-tile ts t y (At (add k t) (Sees (awaitingOwner true ws t c))) len (λ u lu ne. carry (has-add-other k t u ne) (still-asked ne) (all u lu)) (at (asked-owner a) (has-add k t) p)))))
 
@@ -328,7 +308,7 @@ module _ (n l k t : ℕ) (mem : Words) (ts : List Tile) (y : Tile) (len : length
       → Fine n (moved (loadAckS t x (awaitingOwner d us t (request r reading))) l k mem empty empty gone)
   unfolding moved loadAckS grantShared
   ack-shared-fine {d} {us} {r} x p e lr nr all =
-      subst (λ (b : Bool). Fine n (moved (cond b (some (grantShared (dirtyAfter x d) (wordsAfter x us) (add 0 t) r)) none) l k mem empty empty gone)) (sym (eqb-same t))
+      if-true (λ (z : Option Move). Fine n (moved z l k mem empty empty gone)) _ _ (eqb-same t)
       (grantShared-fine n 0 l k mem gone gone-length {e = d} {us = us} (dirtyAfter x d) (wordsAfter x us) (add 0 t) r (add-lt n 0 t (pow-pos n) lt) lr
       (elsewhere r nr (λ rel cur ask s. shares share-stranger rel cur ask (the-requester nr refl rel cur ask s)) (all r lr))
       (each-tile ts t y (λ u z. (r ≡ u → ⊥) → At k (Sees (idle (present d us (sharedBy (add 0 t))))) u z) len
@@ -369,17 +349,15 @@ module _ (n l k t : ℕ) (mem : Words) (ts : List Tile) (y : Tile) (len : length
   less-owed {owed} h (store-ok {r} lr hr) = store-ok lr (has-del-other owed t r (λ q. clash (subst (λ (i : ℕ). has owed i ≡ true) q h) hr) ∙ hr)
   less-owed h clearing-ok = clearing-ok
 
-  ack-inv-fine : {m owed : ℕ} {d : Bool} {us : Words} {c : Clearing} {mark : Bool} → has owed t ≡ true → owed < 2 ^ n → ClearingOk n owed c → TileOk stranger none none mark y → has k t ≡ mark → All n k (Sees (awaitingAcks d us m owed c)) ts
+  ack-inv-fine : {m owed : ℕ} {d : Bool} {us : Words} {c : Clearing} {mark : Bool} → has owed t ≡ true → owed < 2 ^ n → Inside owed m → ClearingOk n owed c → TileOk stranger none none mark y → has k t ≡ mark → All n k (Sees (awaitingAcks d us m owed c)) ts
       → Fine n (moved (invAck t (awaitingAcks d us m owed c)) l k mem empty empty gone)
   unfolding moved invAck posted send sent
-  ack-inv-fine {m} {owed} {d} {us} {c} h lo cok p e all =
-      subst (λ (b : Bool). Fine n (moved (cond b (some (cond (eqb (del owed t) 0) (cleared d us c) (move (awaitingAcks d us m (del owed t) c) []))) none) l k mem empty empty gone)) (sym h) (go (eqb (del owed t) 0) refl)
-    where
-      go : (b : Bool) → eqb (del owed t) 0 ≡ b → Fine n (moved (some (cond b (cleared d us c) (move (awaitingAcks d us m (del owed t) c) []))) l k mem empty empty gone)
-      go true z = moved-fine (cleared d us c) l k mem gone (last-fine c (eqb-true (del owed t) 0 z) h cok p e all)
-      go false z =
-          fine (inv gone-length (acks-ok (del-lt n owed t lo) (eqb-false (del owed t) 0 z) (less-owed h cok))
-          (each-tile ts t y (At k (Sees (awaitingAcks d us m (del owed t) c))) len (λ u lu ne. carry refl (still-owed ne) (all u lu)) (at (cleared-out (has-del owed t) (acked-apart h cok)) e p)))
+  ack-inv-fine {m} {owed} {d} {us} {c} h lo sub cok p e all =
+      if-true (λ (z : Option Move). Fine n (moved z l k mem empty empty gone)) _ _ h
+      (by-test (λ (z : Move). Fine n (moved (some z) l k mem empty empty gone)) (eqb (del owed t) 0) _ _
+      (λ z. moved-fine (cleared d us c) l k mem gone (last-fine c (eqb-true (del owed t) 0 z) h cok p e all))
+      (λ z. fine (inv gone-length (acks-ok (del-lt n owed t lo) (eqb-false (del owed t) 0 z) (λ u q. sub u (del-inside owed t u q)) (less-owed h cok))
+      (each-tile ts t y (At k (Sees (awaitingAcks d us m (del owed t) c))) len (λ u lu ne. carry refl (still-owed ne) (all u lu)) (at (cleared-out (has-del owed t) (acked-apart h cok)) e p)))))
 
   accept-fine : {rel : Relation} {cur : Option Access} {ask : Option Forward} {mark : Bool} {o : Option Reply} {h : Home} {out : Queue ToMemory} {back : Queue FromMemory}
       → Front3 rel cur ask mark o y → Sees h t rel cur ask → has k t ≡ mark → HomeOk n h out back → All n k (Sees h) ts
@@ -390,23 +368,22 @@ module _ (n l k t : ℕ) (mem : Words) (ts : List Tile) (y : Tile) (len : length
   accept-fine (wb-asked {ws} p) (asked-owner a) e (owner-ok x cok) all = wb-asked-fine ws a p e cok all
   accept-fine (ack-shared {x} p) (asked-owner asks-load) e (owner-ok z (request-ok lr nr)) all = ack-shared-fine x p e lr nr all
   accept-fine (ack-invalid p) (asked-owner {d} {ws} (asks-load {r})) e (owner-ok z (request-ok lr nr)) all =
-      subst (λ (b : Bool). Fine n (moved (cond b (some (grantOwner d ws exclusive false r)) none) l k mem empty empty gone)) (sym (eqb-same t)) (ack-owner-fine {a = reading} d ws p e lr nr all)
+      if-true (λ (z : Option Move). Fine n (moved z l k mem empty empty gone)) _ _ (eqb-same t) (ack-owner-fine {a = reading} d ws p e lr nr all)
   accept-fine (ack-store {x} p) (asked-owner {d} {ws} (asks-store {r})) e (owner-ok z (request-ok lr nr)) all =
-      subst (λ (b : Bool). Fine n (moved (cond b (some (grantOwner (dirtyAfter x d) (wordsAfter x ws) modified false r)) none) l k mem empty empty gone)) (sym (eqb-same t)) (ack-owner-fine {a = writing} (dirtyAfter x d) (wordsAfter x ws) p e lr nr all)
+      if-true (λ (z : Option Move). Fine n (moved z l k mem empty empty gone)) _ _ (eqb-same t) (ack-owner-fine {a = writing} (dirtyAfter x d) (wordsAfter x ws) p e lr nr all)
   accept-fine (ack-store {x} p) (asked-owner {d} {ws} asks-eviction) e (owner-ok z cok) all =
-      subst (λ (b : Bool). Fine n (moved (cond b (some (leave (dirtyAfter x d) (wordsAfter x ws))) none) l k mem empty empty gone)) (sym (eqb-same t)) (moved-fine (leave (dirtyAfter x d) (wordsAfter x ws)) l k mem gone (ack-leave-fine (dirtyAfter x d) (wordsAfter x ws) p e all))
-  accept-fine (ack-inv p) (owing h) e (acks-ok lo ne cok) all = ack-inv-fine h lo cok p e all
+      if-true (λ (z : Option Move). Fine n (moved z l k mem empty empty gone)) _ _ (eqb-same t) (moved-fine (leave (dirtyAfter x d) (wordsAfter x ws)) l k mem gone (ack-leave-fine (dirtyAfter x d) (wordsAfter x ws) p e all))
+  accept-fine (ack-inv p) (owing h) e (acks-ok lo ne sub cok) all = ack-inv-fine h lo sub cok p e all
 
 from-tile-fine : {n : ℕ} {b : Bench} (t : ℕ) → Inv n b → Fine n (fromTileOn t b)
 unfolding fromTileOn isMisfit
-from-tile-fine {n} t (inv {h} {l} {k} {mem} {out} {back} {ts} len hok all) = go (ltb t (length ts)) refl
+from-tile-fine {n} t (inv {h} {l} {k} {mem} {out} {back} {ts} len hok all) =
+    by-test (Fine n) (ltb t (length ts)) _ _
+    (λ e. let lt : t < length ts = ltb-true t (length ts) e in here (omega arith) (all t (omega arith)))
+    (λ e. fine-refused refl)
   where
     here : t < n → At k (Sees h) t (tileAt ts t) → Fine n (accept t (front (noc3 (tileAt ts t))) h l k mem out back (set ts t (popNoc3 (tileAt ts t))))
     here lt (at s m o) = accept-fine n l k t mem ts (popNoc3 (tileAt ts t)) len lt (front3 o) s m hok all
-
-    go : (b : Bool) → ltb t (length ts) ≡ b → Fine n (cond b (accept t (front (noc3 (tileAt ts t))) h l k mem out back (set ts t (popNoc3 (tileAt ts t)))) (refused 2))
-    go true e = let lt : t < length ts = ltb-true t (length ts) e in here (omega arith) (all t (omega arith))
-    go false e = fine-refused refl
 
 -- ---- the memory
 
@@ -416,7 +393,7 @@ memory-step-fine (inv len (idle-ok x) all) = fine-refused refl
 memory-step-fine (inv len (load-out lt) all) = fine (inv len (load-back lt) all)
 memory-step-fine (inv len (load-back lt) all) = fine-refused refl
 memory-step-fine (inv len (owner-ok lt c) all) = fine-refused refl
-memory-step-fine (inv len (acks-ok lo ne c) all) = fine-refused refl
+memory-step-fine (inv len (acks-ok lo ne sub c) all) = fine-refused refl
 memory-step-fine (inv len store-out all) = fine (inv len store-back all)
 memory-step-fine (inv len store-back all) = fine-refused refl
 
@@ -438,7 +415,7 @@ memory-ack-fine (inv len (load-out lt) all) = fine-refused refl
 memory-ack-fine {n} (inv {l} {k} {mem} {ts} len (load-back {r} {ws} lt) all) =
     grantOwner-fine n 0 l k mem ts len false ws true r lt (carry refl (the-loader refl) (all r lt)) (λ u lu ne. carry refl (not-loading ne) (all u lu))
 memory-ack-fine (inv len (owner-ok lt c) all) = fine-refused refl
-memory-ack-fine (inv len (acks-ok lo ne c) all) = fine-refused refl
+memory-ack-fine (inv len (acks-ok lo ne sub c) all) = fine-refused refl
 memory-ack-fine (inv len store-out all) = fine-refused refl
 memory-ack-fine (inv len store-back all) = fine (inv len (idle-ok absent-ok) (λ u lu. carry refl left-absent (all u lu)))
 
@@ -450,16 +427,12 @@ all-owed rel cur ask (sees-outsider h) = to-pass h apart-clearing
 
 evict-shared-fine : {n : ℕ} (l k m : ℕ) (mem : Words) (ts : List Tile) (d : Bool) (ws : Words) → length ts ≡ n → m < 2 ^ n → All n k (Sees (idle (present d ws (sharedBy m)))) ts
     → Fine n (moved (some (evictLine n d ws (sharedBy m))) l k mem empty empty ts)
-unfolding evictLine invalidate moved posted
-evict-shared-fine {n} l k m mem ts d ws len lm all = go (eqb m 0) refl
-  where
-    go : (b : Bool) → eqb m 0 ≡ b → Fine n (moved (some (cond b (leave d ws) (invalidate n d ws m m clearForEviction))) l k mem empty empty ts)
-    go true e =
-        moved-fine (leave d ws) l k mem ts
-        (leave-fine n 0 l k mem ts len d ws (λ u lu. carry refl (unshared-alone (ap (λ (x : ℕ). has x u) (eqb-true m 0 e) ∙ has-none u)) (all u lu)))
-    go false e =
-        invalidate-fine n 0 l k mem (kindOf (map invalidateTo (members m n))) (map invalidateTo (members m n)) d ws m m clearForEviction ts len
-        lm (eqb-false m 0 e) clearing-ok (λ u lu. carry refl all-owed (all u lu))
+unfolding evictLine invalidate moved
+evict-shared-fine {n} l k m mem ts d ws len lm all =
+    by-test (λ (x : Move). Fine n (moved (some x) l k mem empty empty ts)) (eqb m 0) _ _
+    (λ e. moved-fine (leave d ws) l k mem ts
+    (leave-fine n 0 l k mem ts len d ws (λ u lu. carry refl (unshared-alone (ap (λ (x : ℕ). has x u) (eqb-true m 0 e) ∙ has-none u)) (all u lu))))
+    (λ e. invalidate-fine n 0 l k mem ts len d ws m m clearForEviction lm (eqb-false m 0 e) (λ u q. q) clearing-ok (λ u lu. carry refl all-owed (all u lu)))
 
 home-eviction-fine : {n : ℕ} {b : Bench} → Inv n b → Fine n (homeEvictionOn b)
 unfolding homeEvictionOn evictLine isMisfit askOwner moved
@@ -473,7 +446,7 @@ home-eviction-fine {n} (inv {l} {k} {mem} {ts} len (idle-ok (owned-ok {d} {ws} {
 home-eviction-fine (inv len (load-out lt) all) = fine-refused refl
 home-eviction-fine (inv len (load-back lt) all) = fine-refused refl
 home-eviction-fine (inv len (owner-ok lt c) all) = fine-refused refl
-home-eviction-fine (inv len (acks-ok lo ne c) all) = fine-refused refl
+home-eviction-fine (inv len (acks-ok lo ne sub c) all) = fine-refused refl
 home-eviction-fine (inv len store-out all) = fine-refused refl
 home-eviction-fine (inv len store-back all) = fine-refused refl
 

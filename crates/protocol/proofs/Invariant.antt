@@ -8,7 +8,7 @@ use mathlib.Core.List.{List}
 use mathlib.Core.Option.{Option, some, none}
 use lib.ListN.{length}
 use Rattle.bits.specs.Mask.{has}
-use Rattle.protocol.specs.Parts.{Words, Queue, empty, one, two, Access, reading, writing, Right, shared, exclusive, modified, Cache, invalid, valid, Waiting, nothing, forLoad, forStore, Request, loadReq, storeReq, wbGuardReq, Forward, loadFwd, storeFwd, invFwd, dataAck, Reply, wbReq, loadFwdAckS, loadFwdAckI, storeFwdAck, invFwdAck, ToMemory, loadMem, storeMem, FromMemory, loadMemAck, storeMemAck, Tile, tileOf, Directory, uncached, sharedBy, ownedBy, Line, absent, present, Cause, request, eviction, Clearing, clearForStore, clearForEviction, Home, idle, awaitingLoad, awaitingOwner, awaitingAcks, awaitingStore, Bench, benchOf, Result, refused, accepted}
+use Rattle.protocol.specs.Parts.{Words, Queue, empty, one, two, Access, reading, writing, shared, exclusive, modified, Cache, invalid, valid, Waiting, nothing, forLoad, forStore, Request, loadReq, storeReq, wbGuardReq, Forward, loadFwd, storeFwd, invFwd, dataAck, Reply, wbReq, loadFwdAckS, loadFwdAckI, storeFwdAck, invFwdAck, ToMemory, loadMem, storeMem, FromMemory, loadMemAck, storeMemAck, Tile, tileOf, uncached, sharedBy, ownedBy, Line, absent, present, Cause, request, eviction, Clearing, clearForStore, clearForEviction, Home, idle, awaitingLoad, awaitingOwner, awaitingAcks, awaitingStore, Bench, benchOf, Result, refused, accepted}
 use Rattle.protocol.specs.Bench.{tileAt}
 use Rattle.protocol.specs.Demand3.{answer, isMisfit}
 
@@ -147,12 +147,16 @@ pub data ClearingOk (n : ℕ) : ℕ → Clearing → Type 0 where
   store-ok : {owed r : ℕ} → r < n → has owed r ≡ false → ClearingOk n owed (clearForStore r)
   clearing-ok : {owed : ℕ} → ClearingOk n owed clearForEviction
 
+-- the owed tiles are in the mask
+abbrev pub Inside : ℕ → ℕ → Type 0
+Inside owed m = (u : ℕ) → has owed u ≡ true → has m u ≡ true
+
 pub data HomeOk (n : ℕ) : Home → Queue ToMemory → Queue FromMemory → Type 0 where
   idle-ok : {l : Line} → LineOk n l → HomeOk n (idle l) empty empty
   load-out : {r : ℕ} {a : Access} → r < n → HomeOk n (awaitingLoad r a absent) (one loadMem) empty
   load-back : {r : ℕ} {a : Access} {ws : Words} → r < n → HomeOk n (awaitingLoad r a absent) empty (one (loadMemAck ws))
   owner-ok : {d : Bool} {ws : Words} {o : ℕ} {c : Cause} → o < n → CauseOk n o c → HomeOk n (awaitingOwner d ws o c) empty empty
-  acks-ok : {d : Bool} {ws : Words} {m owed : ℕ} {c : Clearing} → owed < 2 ^ n → (owed ≡ 0 → ⊥) → ClearingOk n owed c → HomeOk n (awaitingAcks d ws m owed c) empty empty
+  acks-ok : {d : Bool} {ws : Words} {m owed : ℕ} {c : Clearing} → owed < 2 ^ n → (owed ≡ 0 → ⊥) → Inside owed m → ClearingOk n owed c → HomeOk n (awaitingAcks d ws m owed c) empty empty
   store-out : {ws us : Words} → HomeOk n (awaitingStore (present true ws uncached)) (one (storeMem us)) empty
   store-back : {ws : Words} → HomeOk n (awaitingStore (present true ws uncached)) empty (one storeMemAck)
 

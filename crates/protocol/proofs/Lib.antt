@@ -8,6 +8,7 @@ pub mod Falls
 pub mod Bounded
 pub mod Beats
 -- The invariant:
+pub mod Tests
 pub mod Invariant
 pub mod TileSteps
 pub mod ViewSteps

@@ -1,22 +1,21 @@
 -- The home's moves on a bench whose front message is already gone: grants, asking the owner, invalidating, the line's leaving. Each puts its
 -- messages and leaves the invariant, if the tiles are as the move needs them.
 use Prim.Native.Nat.{ℕ, zero, suc, _+_, _≤_, _<_, _^_}
-use mathlib.Core.Path.{_≡_, refl, sym, subst, ap, _∙_}
-use mathlib.Core.Bool.{Bool, true, false, cond}
+use mathlib.Core.Path.{_≡_, refl, sym, subst, _∙_}
+use mathlib.Core.Bool.{Bool, true, false}
 use mathlib.Core.List.{List, [], _∷_, map}
 use mathlib.Core.Option.{Option, some, none, Option·map}
 use native.Mathlib.Omega.{arith}
-use lib.Dec.{eqb}
 use lib.ListN.{length, set, length-set}
 use lib.Seq.{getD-set-same, getD-set-other}
-use borrow.Author.Tests.{eqb-true, eqb-false}
 use Rattle.bits.specs.Mask.{has, add}
 use Rattle.bits.proofs.MaskLaws.{has-add, has-add-other, add-lt}
-use Rattle.protocol.specs.Parts.{Words, Queue, empty, one, two, Access, reading, writing, Right, shared, exclusive, modified, Forward, loadFwd, storeFwd, invFwd, dataAck, ToMemory, loadMem, storeMem, FromMemory, Message, onNoc2, toMemory, Tile, tileOf, Directory, uncached, sharedBy, ownedBy, Line, absent, present, Cause, request, eviction, Clearing, clearForStore, clearForEviction, Home, idle, awaitingLoad, awaitingOwner, awaitingAcks, awaitingStore, Bench, benchOf, Result, refused, accepted}
+use Rattle.protocol.specs.Parts.{Words, Queue, empty, Access, reading, writing, Forward, invFwd, ToMemory, FromMemory, Message, onNoc2, Tile, sharedBy, ownedBy, Line, absent, present, Cause, request, eviction, Clearing, clearForStore, Home, idle, awaitingOwner, awaitingAcks, awaitingStore, Bench, benchOf, Result}
 use Rattle.protocol.specs.Home.{Move, move, range, among, members, grantShared, grantOwner, ownRight, askedFor, askOwner, invalidateTo, invalidate, leave}
-use Rattle.protocol.specs.Bench.{freshTile, tileAt, push, onTile2, sendOne, sendTo, send, sent, posted, kindOf}
-use Rattle.protocol.proofs.Invariant.{Relation, stranger, sharer, owner, Askable, ask-load, ask-store, ask-inv, TileOk, AsksFor, asks-load, asks-store, asks-eviction, Apart, ApartFrom, Sees, sees-absent, sees-uncached, sees-sharer, sees-outsider, sees-owner, sees-unowning, loads, loads-not, asked-owner, requester, bystander, owing, storer, cleared-out, sees-leaving, LineOk, absent-ok, uncached-ok, shared-ok, owned-ok, CauseOk, ClearingOk, HomeOk, idle-ok, owner-ok, acks-ok, store-out, At, at, All, Inv, inv, Fine, fine}
-use Rattle.protocol.proofs.ViewSteps.{false-true, GrantFrom, Placed, placed, grant-owner, ShareFrom, grant-shared, ask-tile}
+use Rattle.protocol.specs.Bench.{freshTile, tileAt, push, sendOne, sendTo, send, sent, posted, kindOf}
+use Rattle.protocol.proofs.Tests.{clash, by-test, at-or-not}
+use Rattle.protocol.proofs.Invariant.{Relation, stranger, sharer, owner, Askable, ask-load, ask-store, ask-inv, AsksFor, asks-load, asks-store, asks-eviction, Apart, ApartFrom, Sees, sees-absent, sees-sharer, sees-outsider, sees-owner, sees-unowning, asked-owner, requester, bystander, owing, storer, cleared-out, sees-leaving, absent-ok, shared-ok, owned-ok, CauseOk, ClearingOk, Inside, idle-ok, owner-ok, acks-ok, store-out, At, at, All, Inv, inv, Fine, fine}
+use Rattle.protocol.proofs.ViewSteps.{GrantFrom, Placed, placed, grant-owner, ShareFrom, grant-shared, ask-tile}
 
 -- what is known of each tile
 abbrev pub Knowledge : Type 1
@@ -32,15 +31,11 @@ module _ (ts : List Tile) (t : ℕ) (y : Tile) where
   other-tile P u ne p = subst P (sym (getD-set-other ts t u y freshTile (λ e. ne (sym e)))) p
 
   pub each-tile : {n : ℕ} (P : ℕ → Tile → Type 0) → length ts ≡ n → ((u : ℕ) → u < n → (t ≡ u → ⊥) → P u (tileAt ts u)) → P t y → (u : ℕ) → u < n → P u (tileAt (set ts t y) u)
-  each-tile P len others here u lt = go (eqb t u) refl
-    where
-      go : (b : Bool) → eqb t u ≡ b → P u (tileAt (set ts t y) u)
-      go true e =
-          let q : t ≡ u = eqb-true t u e in
-          subst (λ (z : ℕ). P z (tileAt (set ts t y) z)) q (same-tile (P t) (omega arith) here)
-      go false e =
-          let ne : t ≡ u → ⊥ = eqb-false t u e in
-          other-tile (P u) u ne (others u lt ne)
+  each-tile P len others here u lt =
+      at-or-not (λ (z : ℕ). z < length ts → P z (tileAt (set ts t y) z)) t u
+      (λ h. same-tile (P t) h here)
+      (λ ne h. other-tile (P u) u ne (others u lt ne))
+      (omega arith)
 
 -- the same tile under other marks and another description
 pub carry : {k j t : ℕ} {S R : Knowledge} {x : Tile} → has j t ≡ has k t → ((rel : Relation) (cur : Option Access) (ask : Option Forward) → S t rel cur ask → R t rel cur ask) → At k S t x → At j R t x
@@ -168,9 +163,6 @@ module _ (n v l k : ℕ) (mem : Words) (ts : List Tile) (len : length ts ≡ n) 
 also : {m : Forward} {x : Tile} {P Q : Tile → Type 0} → ((y : Tile) → P y → Q y) → Placed m x P → Placed m x Q
 also f (placed {y} e p) = placed e (f y p)
 
-pub clash : {A : Type 0} {b : Bool} → b ≡ true → b ≡ false → A
-clash t f = false-true (sym f ∙ t)
-
 -- a tile that is owed is sent its invalidation, and no other is
 owed-sent : {k owed t m : ℕ} {d : Bool} {ws : Words} {c : Clearing} {x : Tile} → has owed t ≡ true → At k (ToClear owed c) t x → Placed invFwd x (At k (Sees (awaitingAcks d ws m owed c)) t)
 owed-sent h (at (to-owe e) q o) = also (λ y p. at (owing e) q p) (ask-tile ask-inv o)
@@ -192,29 +184,25 @@ module _ (n v l k : ℕ) (mem : Words) (kd : ℕ) (all : List Message) (d : Bool
       → Fine n (sent kd v all (send (map invalidateTo (among owed (range i j))) (some (benchOf (awaitingAcks d ws m owed c) l k mem empty empty ts))))
   unfolding range among send sent invalidateTo
   send-all zero i ts len e st end = fine (end ts len (λ u lu. st u lu .0 (omega arith)))
-  send-all (suc j) i ts len e st end = go (has owed i) refl (λ us lus su. send-all j (suc i) us lus (omega arith) su end)
-    where
-      go : (b : Bool) → has owed i ≡ b
-          → ((us : List Tile) → length us ≡ n → ((u : ℕ) → u < n → Until (suc i) u (tileAt us u))
-          → Fine n (sent kd v all (send (map invalidateTo (among owed (range (suc i) j))) (some (benchOf (awaitingAcks d ws m owed c) l k mem empty empty us)))))
-          → Fine n (sent kd v all (send (map invalidateTo (cond b (i ∷ among owed (range (suc i) j)) (among owed (range (suc i) j)))) (some (benchOf (awaitingAcks d ws m owed c) l k mem empty empty ts))))
-      go true h next =
-          send-then (awaitingAcks d ws m owed c) l k mem empty empty kd v ts all (map invalidateTo (among owed (range (suc i) j))) i
-          (owed-sent {m = m} {d = d} {ws = ws} h (st i (omega arith) .1 (omega arith)))
-          (λ y q. next (set ts i y) (length-set ts i y ∙ len)
-          (each-tile ts i y (Until (suc i)) len
-          (λ u lu ne. ((λ a. st u lu .0 (omega arith)), (λ a. st u lu .1 (omega arith))))
-          ((λ a. q), (λ a. absurd (omega arith)))))
-      go false h next =
-          next ts len (λ u lu. ((λ a. below u lu a (eqb i u) refl), (λ a. st u lu .1 (omega arith))))
-        where
-          below : (u : ℕ) → u < n → u < suc i → (b : Bool) → eqb i u ≡ b → At k (Sees (awaitingAcks d ws m owed c)) u (tileAt ts u)
-          below u lu a true q =
-              subst (λ (z : ℕ). At k (Sees (awaitingAcks d ws m owed c)) z (tileAt ts z)) (eqb-true i u q) (not-owed h (st i (omega arith) .1 (omega arith)))
-          below u lu a false q = let ne : i ≡ u → ⊥ = eqb-false i u q in st u lu .0 (omega arith)
+  send-all (suc j) i ts len e st end =
+      let next = send-all j (suc i) in
+      by-test (λ (us : List ℕ). Fine n (sent kd v all (send (map invalidateTo us) (some (benchOf (awaitingAcks d ws m owed c) l k mem empty empty ts))))) (has owed i) _ _
+      (λ h. send-then (awaitingAcks d ws m owed c) l k mem empty empty kd v ts all (map invalidateTo (among owed (range (suc i) j))) i
+      (owed-sent {m = m} {d = d} {ws = ws} h (st i (omega arith) .1 (omega arith)))
+      (λ y q. next (set ts i y) (length-set ts i y ∙ len) (omega arith)
+      (each-tile ts i y (Until (suc i)) len
+      (λ u lu ne. ((λ a. st u lu .0 (omega arith)), (λ a. st u lu .1 (omega arith))))
+      ((λ a. q), (λ a. absurd (omega arith))))
+      end))
+      (λ h. next ts len (omega arith)
+      (λ u lu. (
+        (λ a. at-or-not (λ (z : ℕ). At k (Sees (awaitingAcks d ws m owed c)) z (tileAt ts z)) i u (not-owed h (st i (omega arith) .1 (omega arith))) (λ ne. st u lu .0 (omega arith))),
+        (λ a. st u lu .1 (omega arith)),
+      ))
+      end)
 
-  pub invalidate-fine : (ts : List Tile) → length ts ≡ n → owed < 2 ^ n → (owed ≡ 0 → ⊥) → ClearingOk n owed c → All n k (ToClear owed c) ts
-      → Fine n (sent kd v all (send (map invalidateTo (members owed n)) (some (benchOf (awaitingAcks d ws m owed c) l k mem empty empty ts))))
-  unfolding members
-  invalidate-fine ts len lo ne cok st =
-      send-all n 0 ts len (omega arith) (λ u lu. ((λ a. absurd (omega arith)), (λ a. st u lu))) (λ us lus su. inv lus (acks-ok lo ne cok) su)
+pub invalidate-fine : (n v l k : ℕ) (mem : Words) (ts : List Tile) → length ts ≡ n → (d : Bool) (ws : Words) (m owed : ℕ) (c : Clearing) → owed < 2 ^ n → (owed ≡ 0 → ⊥) → Inside owed m → ClearingOk n owed c → All n k (ToClear owed c) ts
+    → Fine n (post (invalidate n d ws m owed c) v l k mem empty empty ts)
+unfolding invalidate members posted
+invalidate-fine n v l k mem ts len d ws m owed c lo ne sub cok st =
+    send-all n v l k mem _ _ d ws m owed c n 0 ts len (omega arith) (λ u lu. ((λ a. absurd (omega arith)), (λ a. st u lu))) (λ us lus su. inv lus (acks-ok lo ne sub cok) su)

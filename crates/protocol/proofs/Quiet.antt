@@ -1,27 +1,25 @@
 -- Under the invariant the delivery `next` can be accepted, unless all is quiet: no tile waits, every queue is empty, the home is idle.
-use Prim.Native.Nat.{ℕ, zero, suc, _+_, _-_, _≤_, _<_, _^_}
-use mathlib.Core.Path.{_≡_, refl, sym, subst, ap, _∙_}
-use mathlib.Core.Bool.{Bool, true, false, cond, not}
-use mathlib.Core.List.{List, [], _∷_, _++_}
+use Prim.Native.Nat.{ℕ, zero, suc, _<_, _^_}
+use mathlib.Core.Path.{_≡_, refl, sym, subst, _∙_}
+use mathlib.Core.Bool.{Bool, true, false, not}
+use mathlib.Core.List.{List}
 use mathlib.Core.Option.{Option, some, none}
 use mathlib.Core.Logic.{_⊎_, inl, inr}
 use native.Mathlib.Omega.{arith}
-use lib.Dec.{eqb, ltb, leb}
-use lib.ListN.{length, set, List·getD-eq-default}
+use lib.ListN.{length, set}
 use lib.Pow.{pow-pos}
-use borrow.Author.Tests.{ltb-true, ltb-false, lt-ltb, leb-true, leb-false, not-true, not-false, eqb-true, eqb-false}
+use borrow.Author.Tests.{lt-ltb, not-true, not-false}
 use Rattle.bits.specs.Mask.{has}
 use Rattle.bits.proofs.MaskLaws.{has-none, ext}
-use Rattle.protocol.specs.Parts.{Words, Queue, empty, one, two, Access, Cache, Waiting, Request, loadReq, storeReq, wbGuardReq, Forward, Reply, wbReq, loadFwdAckS, loadFwdAckI, storeFwdAck, invFwdAck, ToMemory, loadMem, storeMem, FromMemory, loadMemAck, storeMemAck, Message, Tile, tileOf, Line, Home, idle, awaitingLoad, awaitingOwner, awaitingAcks, awaitingStore, Cause, Clearing, Bench, benchOf, Call, load, store, evict, taking, toTile, fromTile, memoryStep, memoryAck, homeEviction, Result, refused, accepted}
+use Rattle.protocol.specs.Parts.{Words, Queue, empty, one, two, Access, Cache, Waiting, Request, loadReq, storeReq, wbGuardReq, Forward, Reply, wbReq, loadFwdAckS, loadFwdAckI, storeFwdAck, invFwdAck, ToMemory, loadMem, storeMem, FromMemory, Message, Tile, tileOf, Line, Home, idle, awaitingOwner, awaitingAcks, Cause, Clearing, Bench, benchOf, taking, toTile, fromTile, memoryStep, memoryAck, Result, refused, accepted}
 use Rattle.protocol.specs.Tile.{Received, misfit, filled, answered, received, receive, deliverTo}
-use Rattle.protocol.specs.Home.{Move, move, range, serve, writeBack, loadAckS, loadAckI, storeAck, invAck, acknowledged}
+use Rattle.protocol.specs.Home.{Move, move, range, writeBack, loadAckS, loadAckI, storeAck, invAck, acknowledged}
 use Rattle.protocol.specs.Bench.{freshTile, tileAt, front, rest, send, sent, posted, kindOf, settle, atTile, circle, firstOf, eligible, arbitrate, noc1, popNoc1, served, take, takeFrom, takingOn, noc3, popNoc3, writtenBack, moved, accept, fromTileOn, memoryServes, memoryStepOn, acceptAck, memoryAckOn, step}
 use Rattle.protocol.specs.Demand3.{answer, isAccepted, isMisfit, canBeAccepted, isDelivery, isWaiting, tilesOf, isEmpty, noc2, memoryNext, fromNext, toNext, next, Quiet}
 use Rattle.protocol.specs.Demand3 as demand
-use Rattle.protocol.proofs.Invariant.{Relation, stranger, sharer, owner, join, Wants, resting, loadQueued, storeQueued, loadCurrent, storeCurrent, sharedGranted, exclusiveGranted, modifiedGranted, Askable, not-asked, ask-load, ask-store, ask-inv, SharedData, no-data, shared-data, Owns, owns-I, owns-E, owns-M, sent-E, sent-M, Table, stranger-plain, stranger-in, sharer-plain, sharer-replied, owner-plain, owner-replied, owner-shared, owner-out, owner-out-replied, owner-in, owner-in-replied, TileOk, ok, Sees, asked-owner, requester, bystander, owing, storer, cleared-out, HomeOk, idle-ok, load-out, load-back, owner-ok, acks-ok, store-out, store-back, At, at, All, Inv, inv, Fine, fine-refused, fine}
-use Rattle.protocol.proofs.ViewSteps.{false-true}
-use Rattle.protocol.proofs.Moves.{clash}
-use Rattle.protocol.proofs.Calls.{firstOf-true, eligible-lt, at-rest, step-fine}
+use Rattle.protocol.proofs.Invariant.{Relation, join, resting, loadQueued, storeQueued, sharedGranted, exclusiveGranted, modifiedGranted, not-asked, ask-load, ask-store, ask-inv, stranger-plain, stranger-in, sharer-plain, sharer-replied, owner-plain, owner-replied, owner-shared, owner-out, owner-out-replied, owner-in, owner-in-replied, TileOk, ok, Sees, asked-owner, requester, bystander, owing, storer, cleared-out, HomeOk, idle-ok, load-out, load-back, owner-ok, acks-ok, store-out, store-back, At, at, All, Inv, inv, Fine, fine-refused, fine}
+use Rattle.protocol.proofs.Tests.{false-true, clash, at-or-not, if-true, firstOf-true, range-none, circle-none, everywhere, there}
+use Rattle.protocol.proofs.Calls.{at-rest, step-fine}
 
 -- ---- what is refused, if at all, by 8 or 9 alone is accepted under the invariant
 
@@ -95,52 +93,17 @@ take-ready t b (tileOf c p (two (loadReq w) m) q2 q3) x k mem out back ts e = se
 take-ready t b (tileOf c p (two (storeReq w) m) q2 q3) x k mem out back ts e = served-ready t _ k mem out back ts
 take-ready t b (tileOf c p (two wbGuardReq m) q2 q3) x k mem out back ts e = fits
 
--- ---- searching
-
--- nothing found means that the test fails everywhere
-firstOf-none : (f : ℕ → Bool) (i j t : ℕ) → firstOf f (range i j) ≡ none → i ≤ t → t < i + j → f t ≡ false
-unfolding firstOf range
-firstOf-none f i zero t e a b = absurd (omega arith)
-firstOf-none f i (suc j) t e a b = go (f i) refl e (λ z q. firstOf-none f (suc i) j t z q (omega arith))
-  where
-    go : (x : Bool) → f i ≡ x → cond x (some i) (firstOf f (range (suc i) j)) ≡ none → (firstOf f (range (suc i) j) ≡ none → suc i ≤ t → f t ≡ false) → f t ≡ false
-    go true q z later = let o : _≡_ {A = ℕ} 0 1 = cc in absurd (omega arith)
-    go false q z later = here (eqb i t) refl
-      where
-        here : (y : Bool) → eqb i t ≡ y → f t ≡ false
-        here true r = subst (λ (u : ℕ). f u ≡ false) (eqb-true i t r) q
-        here false r = let ne : i ≡ t → ⊥ = eqb-false i t r in later z (omega arith)
-
-firstOf-append : (f : ℕ → Bool) (us vs : List ℕ) → firstOf f (us ++ vs) ≡ none → (firstOf f us ≡ none) × (firstOf f vs ≡ none)
-unfolding firstOf
-firstOf-append f [] vs e = (refl, e)
-firstOf-append f (u ∷ us) vs e = go (f u) e (firstOf-append f us vs)
-  where
-    go : (b : Bool) → cond b (some u) (firstOf f (us ++ vs)) ≡ none → (firstOf f (us ++ vs) ≡ none → (firstOf f us ≡ none) × (firstOf f vs ≡ none)) → (cond b (some u) (firstOf f us) ≡ none) × (firstOf f vs ≡ none)
-    go true z later = let o : _≡_ {A = ℕ} 0 1 = cc in absurd (omega arith)
-    go false z later = later z
-
-circle-none : (f : ℕ → Bool) (l n t : ℕ) → firstOf f (circle l n) ≡ none → t < n → f t ≡ false
-unfolding circle
-circle-none f l n t e lt = go (ltb l t) refl (firstOf-append f (range (suc l) (n - suc l)) (range 0 (suc l)) e)
-  where
-    go : (b : Bool) → ltb l t ≡ b → (firstOf f (range (suc l) (n - suc l)) ≡ none) × (firstOf f (range 0 (suc l)) ≡ none) → f t ≡ false
-    go true q z = let h : l < t = ltb-true l t q in firstOf-none f (suc l) (n - suc l) t (z .0) (omega arith) (omega arith)
-    go false q z = let h : t ≤ l = ltb-false l t q in firstOf-none f 0 (suc l) t (z .1) (omega arith) (omega arith)
+-- ---- masks
 
 -- a mask that is not 0 and has no bit from n on has one below n
-some-bit : (m : ℕ) (n : ℕ) → ((t : ℕ) → t < n → has m t ≡ false) ⊎ ((t : ℕ) × (t < n) × (has m t ≡ true))
+some-bit : (m n : ℕ) → ((t : ℕ) → t < n → has m t ≡ false) ⊎ ((t : ℕ) × (t < n) × (has m t ≡ true))
 some-bit m zero = inl (λ t lt. absurd (omega arith))
 some-bit m (suc n) = go (some-bit m n) (has m n) refl
   where
     go : ((t : ℕ) → t < n → has m t ≡ false) ⊎ ((t : ℕ) × (t < n) × (has m t ≡ true)) → (b : Bool) → has m n ≡ b → ((t : ℕ) → t < suc n → has m t ≡ false) ⊎ ((t : ℕ) × (t < suc n) × (has m t ≡ true))
     go (inr z) b e = inr (z .0, (let h = z .1 in omega arith), z .2)
     go (inl f) true e = inr (n, omega arith, e)
-    go (inl f) false e = inl (λ t lt. each t lt (eqb n t) refl)
-      where
-        each : (t : ℕ) → t < suc n → (b : Bool) → eqb n t ≡ b → has m t ≡ false
-        each t lt true q = subst (λ (u : ℕ). has m u ≡ false) (eqb-true n t q) e
-        each t lt false q = let ne : n ≡ t → ⊥ = eqb-false n t q in f t (omega arith)
+    go (inl f) false e = inl (λ t lt. at-or-not (λ (u : ℕ). has m u ≡ false) n t e (λ ne. f t (omega arith)))
 
 member : (n m : ℕ) → m < 2 ^ n → (m ≡ 0 → ⊥) → (t : ℕ) × (t < n) × (has m t ≡ true)
 member n m lm ne = go (some-bit m n)
@@ -215,31 +178,18 @@ owed-busy h (at (cleared-out e a) m o) = clash h e
 
 -- ---- the bench
 
--- a tile with a message is there
-there : (ts : List Tile) (t : ℕ) (f : Tile → Bool) → f freshTile ≡ true → f (tileAt ts t) ≡ false → t < length ts
-there ts t f e q = go (ltb t (length ts)) refl
-  where
-    go : (b : Bool) → ltb t (length ts) ≡ b → t < length ts
-    go true z = ltb-true t (length ts) z
-    go false z = clash (subst (λ (x : Tile). f x ≡ true) (sym (List·getD-eq-default ts freshTile (ltb-false t (length ts) z))) e) q
-
 module _ (n : ℕ) (h : Home) (l k : ℕ) (mem : Words) (out : Queue ToMemory) (back : Queue FromMemory) (ts : List Tile) (i : Inv n (benchOf h l k mem out back ts)) where
-  to-accepted : (t : ℕ) → isEmpty (noc2 (tileAt ts t)) ≡ false → canBeAccepted (toTile t) (benchOf h l k mem out back ts) ≡ true
+  to-accepted : (t : ℕ) → not (isEmpty (noc2 (tileAt ts t))) ≡ true → canBeAccepted (toTile t) (benchOf h l k mem out back ts) ≡ true
   unfolding canBeAccepted step atTile isEmpty noc2
   to-accepted t e =
-      let lt : t < length ts = there ts t (λ x. isEmpty (noc2 x)) refl e in
-      ready-accepted
-      (subst (λ (b : Bool). Ready (cond b (settle t (benchOf h l k mem out back ts) (deliverTo t (tileAt ts t))) (refused 2))) (sym (lt-ltb t (length ts) lt)) (deliver-ready t (benchOf h l k mem out back ts) (tileAt ts t) e))
-      (step-fine (toTile t) i)
+      let lt : t < length ts = there (λ x. not (isEmpty (noc2 x))) ts t refl e in
+      ready-accepted (if-true Ready _ _ (lt-ltb t (length ts) lt) (deliver-ready t (benchOf h l k mem out back ts) (tileAt ts t) (not-true _ e))) (step-fine (toTile t) i)
 
-  from-accepted : (t : ℕ) → isEmpty (noc3 (tileAt ts t)) ≡ false → canBeAccepted (fromTile t) (benchOf h l k mem out back ts) ≡ true
+  from-accepted : (t : ℕ) → not (isEmpty (noc3 (tileAt ts t))) ≡ true → canBeAccepted (fromTile t) (benchOf h l k mem out back ts) ≡ true
   unfolding canBeAccepted step fromTileOn isEmpty noc3
   from-accepted t e =
-      let lt : t < length ts = there ts t (λ x. isEmpty (noc3 x)) refl e in
-      ready-accepted
-      (subst (λ (b : Bool). Ready (cond b (accept t (front (noc3 (tileAt ts t))) h l k mem out back (set ts t (popNoc3 (tileAt ts t)))) (refused 2))) (sym (lt-ltb t (length ts) lt))
-      (front-ready t (noc3 (tileAt ts t)) h l k mem out back (set ts t (popNoc3 (tileAt ts t))) e))
-      (step-fine (fromTile t) i)
+      let lt : t < length ts = there (λ x. not (isEmpty (noc3 x))) ts t refl e in
+      ready-accepted (if-true Ready _ _ (lt-ltb t (length ts) lt) (front-ready t (noc3 (tileAt ts t)) h l k mem out back (set ts t (popNoc3 (tileAt ts t))) (not-true _ e))) (step-fine (fromTile t) i)
 
 -- what `next` can do where messages are under way to or from memory
 step-accepted : {n l k : ℕ} {h : Home} {mem : Words} {m : ToMemory} {back : Queue FromMemory} {ts : List Tile} → Inv n (benchOf h l k mem (one m) back ts) → canBeAccepted memoryStep (benchOf h l k mem (one m) back ts) ≡ true
@@ -270,13 +220,6 @@ fresh-idle : Idle freshTile
 unfolding noc1 noc2 noc3 isWaiting
 fresh-idle = record { on1 = refl; on2 = refl; on3 = refl; waits = refl }
 
-everywhere : (ts : List Tile) → ((t : ℕ) → t < length ts → Idle (tileAt ts t)) → (t : ℕ) → Idle (tileAt ts t)
-everywhere ts f t = go (ltb t (length ts)) refl
-  where
-    go : (b : Bool) → ltb t (length ts) ≡ b → Idle (tileAt ts t)
-    go true e = f t (ltb-true t (length ts) e)
-    go false e = subst Idle (sym (List·getD-eq-default ts freshTile (ltb-false t (length ts) e))) fresh-idle
-
 -- all is quiet, and no tile waits
 abbrev pub Settled : Bench → Type 0
 Settled b = Quiet b × ((t : ℕ) → isWaiting (tileAt (tilesOf b) t) ≡ false)
@@ -299,7 +242,7 @@ idle-settled {n} {l} {k} {x} {mem} {ts} i len all none-under-way refusal = go (a
     go : (o : Option ℕ) → arbitrate l k ts ≡ o → Settled (benchOf (idle x) l k mem empty empty ts)
     go (some t) e = clash (taking-accepted t i e) refusal
     go none e =
-        let f : (t : ℕ) → Idle (tileAt ts t) = everywhere ts (λ t lt. each e t lt (all t (omega arith))) in
+        let f : (t : ℕ) → Idle (tileAt ts t) = everywhere (λ t. Idle) ts (λ t. fresh-idle) (λ t lt. each e t lt (all t (omega arith))) in
         (record { idle-home = (x, l, k, mem, ts, refl); empty-noc1 = λ t. f t .on1; empty-noc2 = λ t. f t .on2; empty-noc3 = λ t. f t .on3 }, λ t. f t .waits)
 
 -- with nothing under way at the tiles, it is the home's turn
@@ -310,7 +253,7 @@ home-settled i len (idle-ok x) all w e = idle-settled i len all w e
 home-settled i len (load-out lt) all w e = clash (step-accepted i) e
 home-settled i len (load-back lt) all w e = clash (ack-accepted i) e
 home-settled i len (owner-ok {o} lt c) all w e = let q = w o (omega arith) in asked-busy refl (all o lt) (q .0) (q .1)
-home-settled {n} i len (acks-ok {owed} lo ne c) all w e =
+home-settled {n} i len (acks-ok {owed} lo ne sub c) all w e =
     let z = member n owed lo ne in
     let q = w (z .0) (subst (λ (j : ℕ). z .0 < j) (sym len) (z .1)) in
     owed-busy (z .2) (all (z .0) (z .1)) (q .0) (q .1)
@@ -328,13 +271,13 @@ settled {n} (inv {h} {l} {k} {mem} {out} {back} {ts} len hok all) refusal =
     go : (o : Option ℕ) → firstOf (λ t. not (isEmpty (noc2 (tileAt ts t)))) (range 0 (length ts)) ≡ o
         → (p : Option ℕ) → firstOf (λ t. not (isEmpty (noc3 (tileAt ts t)))) (range 0 (length ts)) ≡ p
         → canBeAccepted (toNext o p (isEmpty out) (isEmpty back)) (benchOf h l k mem out back ts) ≡ false → Settled (benchOf h l k mem out back ts)
-    go (some t) e p q z = clash (to-accepted n h l k mem out back ts i t (not-true _ (firstOf-true (λ u. not (isEmpty (noc2 (tileAt ts u)))) _ t e))) z
-    go none e (some t) q z = clash (from-accepted n h l k mem out back ts i t (not-true _ (firstOf-true (λ u. not (isEmpty (noc3 (tileAt ts u)))) _ t q))) z
+    go (some t) e p q z = clash (to-accepted n h l k mem out back ts i t (firstOf-true (λ u. not (isEmpty (noc2 (tileAt ts u)))) _ t e)) z
+    go none e (some t) q z = clash (from-accepted n h l k mem out back ts i t (firstOf-true (λ u. not (isEmpty (noc3 (tileAt ts u)))) _ t q)) z
     go none e none q z =
         home-settled i len hok all
         (λ t lt. (
-          not-false _ (firstOf-none (λ u. not (isEmpty (noc2 (tileAt ts u)))) 0 (length ts) t e (omega arith) (omega arith)),
-          not-false _ (firstOf-none (λ u. not (isEmpty (noc3 (tileAt ts u)))) 0 (length ts) t q (omega arith) (omega arith)),
+          not-false _ (range-none (λ u. not (isEmpty (noc2 (tileAt ts u)))) (length ts) t e lt),
+          not-false _ (range-none (λ u. not (isEmpty (noc3 (tileAt ts u)))) (length ts) t q lt),
         ))
         z
 

@@ -1,17 +1,16 @@
 -- Demand 3, whole: of every number of tiles from 1 to 64, all memory words and every list of calls. Assumes nothing.
-use Prim.Native.Nat.{ℕ, _+_, _*_, _≤_, _<_}
+use Prim.Native.Nat.{ℕ}
 use mathlib.Core.Path.{_≡_, refl, sym, subst, _∙_}
 use mathlib.Core.Bool.{Bool, true, false}
 use mathlib.Core.List.{List, [], _∷_}
-use mathlib.Core.Option.{none}
 use native.Mathlib.Nat.{le-trans}
-use lib.ListN.{length, length-replicate, getD-replicate, replicate}
+use lib.ListN.{length-replicate, getD-replicate}
 use Rattle.bits.proofs.MaskLaws.{has-none}
 use Rattle.protocol.specs.Parts.{Words, Bench, Call, Result, idle, absent}
-use Rattle.protocol.specs.Bench.{freshTile, tileAt, fresh, step}
-use Rattle.protocol.specs.Demand3.{kept, after, runs, answered, isMisfit, canBeAccepted, isDelivery, history, waits, next, Demand3, Demand3-statement}
+use Rattle.protocol.specs.Bench.{freshTile, fresh}
+use Rattle.protocol.specs.Demand3.{kept, after, runs, answered, isMisfit, canBeAccepted, history, waits, next, Demand3-statement}
 use Rattle.protocol.proofs.Invariant.{Sees, sees-absent, stranger-plain, resting, ok, absent-ok, idle-ok, At, at, Inv, inv, Fine, fine-refused, fine}
-use Rattle.protocol.proofs.Moves.{clash}
+use Rattle.protocol.proofs.Tests.{clash}
 use Rattle.protocol.proofs.Calls.{step-fine}
 use Rattle.protocol.proofs.Bound.{measure-bound}
 use Rattle.protocol.proofs.Quiet.{settled, next-delivery}

@@ -1,17 +1,14 @@
 -- What the home's steps do to one tile and to what the home knows of it: its NoC1 or NoC3 front goes, or a message comes on its NoC2.
 use Prim.Native.Nat.{ℕ}
-use mathlib.Core.Path.{_≡_, refl, sym, subst}
+use mathlib.Core.Path.{_≡_, refl}
 use mathlib.Core.Bool.{Bool, true, false}
 use mathlib.Core.Option.{Option, some, none}
-use lib.Dec.{T}
-use Rattle.protocol.specs.Parts.{Words, Queue, empty, one, two, Access, reading, writing, Right, shared, exclusive, modified, Cache, invalid, valid, Waiting, nothing, forLoad, forStore, Request, loadReq, storeReq, wbGuardReq, Forward, loadFwd, storeFwd, invFwd, dataAck, Reply, wbReq, loadFwdAckS, loadFwdAckI, storeFwdAck, invFwdAck, Tile, tileOf}
+use Rattle.protocol.specs.Parts.{Words, Access, reading, writing, shared, Request, loadReq, storeReq, wbGuardReq, Forward, loadFwd, storeFwd, invFwd, dataAck, Reply, wbReq, loadFwdAckS, loadFwdAckI, storeFwdAck, invFwdAck, Tile}
 use Rattle.protocol.specs.Home.{ownRight}
 use Rattle.protocol.specs.Bench.{push, front, rest, onTile2, eligible, noc1, popNoc1, noc3, popNoc3}
-use Rattle.protocol.proofs.Invariant.{Relation, stranger, sharer, owner, join, Weak, weak-I, weak-S, Wants, resting, loadQueued, storeQueued, loadCurrent, storeCurrent, sharedGranted, exclusiveGranted, modifiedGranted, Askable, not-asked, ask-load, ask-store, ask-inv, SharedData, no-data, shared-data, Owns, owns-I, owns-E, owns-M, sent-E, sent-M, Replies, replies-load, replies-store, Answers, answers-load, answers-store, Table, stranger-plain, stranger-in, sharer-plain, sharer-replied, owner-plain, owner-replied, owner-shared, owner-out, owner-out-replied, owner-in, owner-in-replied, TileOk, ok}
+use Rattle.protocol.proofs.Tests.{false-true}
+use Rattle.protocol.proofs.Invariant.{Relation, stranger, sharer, owner, weak-I, resting, loadQueued, storeQueued, loadCurrent, storeCurrent, sharedGranted, exclusiveGranted, modifiedGranted, Askable, not-asked, ask-load, ask-store, ask-inv, no-data, shared-data, sent-E, sent-M, replies-load, replies-store, answers-load, answers-store, stranger-plain, stranger-in, sharer-plain, sharer-replied, owner-plain, owner-replied, owner-shared, owner-out, owner-out-replied, owner-in, owner-in-replied, TileOk, ok}
 use Rattle.protocol.proofs.TileSteps.{on2}
-
-pub false-true : false ≡ true → {A : Type 0} → A
-false-true e = absurd (subst T (sym e) tt)
 
 -- ---- taking
 
