@@ -317,14 +317,14 @@ pop-waiting : (x : Tile) → isWaiting (popNoc1 x) ≡ isWaiting x
 unfolding popNoc1
 pop-waiting (tileOf c p q1 q2 q3) = waiting-alone p c c q1 (rest q1) q2 q2 q3 q3
 
-taken-left : (h h′ : Home) (l k k′ u kd : ℕ) (mem : Words) (out : Queue ToMemory) (back : Queue FromMemory) (ts : List Tile) (d : Bench) → Same (benchOf h′ u k′ mem out back (set ts u (popNoc1 (tileAt ts u)))) d → Left taking (answer 0 kd u) (benchOf h l k mem out back ts) d
+taken-left : (h h′ : Home) (l l′ k k′ u v kd : ℕ) (mem : Words) (out : Queue ToMemory) (back : Queue FromMemory) (ts : List Tile) (d : Bench) → v ≡ u → l′ ≡ v → Same (benchOf h′ l′ k′ mem out back (set ts u (popNoc1 (tileAt ts u)))) d → Left taking (answer 0 kd v) (benchOf h l k mem out back ts) d
 unfolding tilesOf lastTaken lastAfter waitsAfter takes
-taken-left h h′ l k k′ u kd mem out back ts d s =
+taken-left h h′ l l′ k k′ u v kd mem out back ts d answers becomes s =
     record {
       count = s .count ∙ length-set ts u (popNoc1 (tileAt ts u));
-      last = s .last;
+      last = s .last ∙ becomes;
       waiting = λ t. s .tiles t .waiting ∙ set-related (λ y′ y. isWaiting y′ ≡ isWaiting y) (λ y. refl) ts u t (popNoc1 (tileAt ts u)) (pop-waiting (tileAt ts u));
-      asking = λ t other a. s .tiles t .asking (subst (λ (y : Tile). asks y ≡ true) (sym (getD-set-other ts u t (popNoc1 (tileAt ts u)) freshTile (λ q. eqb-false u t other (sym q)))) a);
+      asking = λ t other a. s .tiles t .asking (subst (λ (y : Tile). asks y ≡ true) (sym (getD-set-other ts u t (popNoc1 (tileAt ts u)) freshTile (λ q. eqb-false v t other (answers ∙ sym q)))) a);
     }
 
 taken : (b : Bench) → Effect taking b (takingOn b)
@@ -339,12 +339,12 @@ taken (benchOf (idle x) l k mem out back ts) = go (arbitrate l k ts)
 
     serving : (u : ℕ) (m : Move) → Effect taking b (served u m k mem out back (popped u))
     serving u (move h ms) =
-        on-posted (Effect taking b) (kindOf ms) u ms (benchOf h u k mem out back (popped u)) (refused-left taking b 9 refl)
-        (λ d s. taken-left (idle x) h l k k u (kindOf ms) mem out back ts d (s .same))
+        on-posted (Effect taking b) (kindOf ms) _ ms _ (refused-left taking b 9 refl)
+        (λ d s. taken-left (idle x) h l _ k k u _ (kindOf ms) mem out back ts d refl refl (s .same))
 
     taking-of : (u : ℕ) (m : Option Request) → Effect taking b (take u m x k mem out back (popped u))
     taking-of u none = refused-left taking b 7 refl
-    taking-of u (some wbGuardReq) = taken-left (idle x) (idle x) l k (del k u) u 0 mem out back ts (benchOf (idle x) u (del k u) mem out back (popped u)) (same-bench (benchOf (idle x) u (del k u) mem out back (popped u)))
+    taking-of u (some wbGuardReq) = taken-left (idle x) (idle x) l _ k (del k u) u _ 0 mem out back ts _ refl refl (same-bench _)
     taking-of u (some (loadReq w)) = serving u (serve (length (popped u)) u reading x)
     taking-of u (some (storeReq w)) = serving u (serve (length (popped u)) u writing x)
 

@@ -183,7 +183,7 @@ chosen (benchOf (idle x) l k mem out back ts) = go (arbitrate l k ts) refl
     popped u = set ts u (popNoc1 (tileAt ts u))
 
     serving : (u : ℕ) (m : Move) → arbitrate l k ts ≡ some u → Chosen b (answered (served u m k mem out back (popped u)))
-    serving u (move h ms) e = on-posted (λ r. Chosen b (answered r)) (kindOf ms) u ms (benchOf h u k mem out back (popped u)) (λ z. absurd (false≢true z)) (λ d s z. e)
+    serving u (move h ms) e = on-posted (λ r. Chosen b (answered r)) (kindOf ms) _ ms _ (λ z. absurd (false≢true z)) (λ d s z. e)
 
     taking-of : (u : ℕ) (m : Option Request) → arbitrate l k ts ≡ some u → Chosen b (answered (take u m x k mem out back (popped u)))
     taking-of u none e = λ z. absurd (false≢true z)

@@ -351,7 +351,7 @@ lighter-taking (benchOf (idle x) l k mem out back ts) = go (arbitrate l k ts)
     y u = popNoc1 (tileAt ts u)
 
     serving : (u : ℕ) (m : Move) → Serves (length ts) m → tileWeight (length ts) (y u) + (2 * length ts + 2) ≡ tileWeight (length ts) (tileAt ts u) → Lighter b (served u m k mem out back (set ts u (y u)))
-    serving u (move h ms) s e = replaced-posted (idle x) h l u k k (kindOf ms) u mem out back ts u (y u) ms (omega arith)
+    serving u (move h ms) s e = replaced-posted (idle x) h l _ k k (kindOf ms) _ mem out back ts u (y u) ms (omega arith)
 
     served-by : (u : ℕ) (a : Access) → 1 ≤ length ts → Serves (length ts) (serve (length (set ts u (y u))) u a x)
     served-by u a le = rw (length-set ts u (y u)) (serves (length ts) u a x le)
