@@ -5,7 +5,7 @@ use mathlib.Core.Bool.{Bool, true, false}
 use mathlib.Core.List.{List, [], _∷_}
 use mathlib.Core.Option.{Option, some, none, Option·map}
 use native.Mathlib.Omega.{arith}
-use lib.Dec.{eqb, ltb}
+use lib.Dec.{ltb}
 use lib.ListN.{length, set, length-set}
 use lib.Pow.{pow-pos}
 use lib.Seq.{getD-set-same, set-set}
@@ -17,7 +17,8 @@ use Rattle.protocol.specs.Tile.{loadAt, storeAt, evictAt, deliverTo}
 use Rattle.protocol.specs.Home.{Move, move, grantShared, grantOwner, ownRight, askOwner, invalidate, leave, serve, writeBack, wordsAfter, dirtyAfter, loadAckS, loadAckI, storeAck, cleared, invAck, acknowledged, evictLine}
 use Rattle.protocol.specs.Bench.{freshTile, tileAt, push, front, rest, onTile1, onTile3, sendOne, sendTo, send, sent, posted, kindOf, settle, atTile, atWord, eligible, arbitrate, popNoc1, served, take, takeFrom, takingOn, noc3, popNoc3, writtenBack, moved, accept, fromTileOn, memoryServes, memoryStepOn, acceptAck, memoryAckOn, homeEvictionOn, step}
 use Rattle.protocol.specs.Demand3.{isMisfit}
-use Rattle.protocol.proofs.Tests.{clash, by-test, if-true, if-false, eqb-same, at-or-not, firstOf-true, there}
+use Rattle.protocol.proofs.Tests.{clash, by-test, if-true, if-false, eqb-same, at-or-not}
+use Rattle.protocol.proofs.Search.{first-passes, eligible-below}
 use Rattle.protocol.proofs.Invariant.{Relation, stranger, sharer, owner, TileOk, AsksFor, asks-load, asks-store, asks-eviction, Apart, apart-request, apart-eviction, ApartFrom, apart-store, apart-clearing, Sees, sees-absent, sees-uncached, sees-sharer, sees-outsider, sees-owner, sees-unowning, loads, loads-not, asked-owner, requester, bystander, owing, storer, cleared-out, sees-leaving, LineOk, absent-ok, uncached-ok, shared-ok, owned-ok, CauseOk, request-ok, eviction-ok, ClearingOk, store-ok, clearing-ok, Inside, HomeOk, idle-ok, load-out, load-back, owner-ok, acks-ok, store-out, store-back, At, at, All, Inv, inv, Fine, fine-refused, fine}
 use Rattle.protocol.proofs.TileSteps.{Kept, kept-refused, kept-silent, kept-request, kept-reply, kept-write-back, load-kept, store-kept, evict-kept, deliver-kept}
 use Rattle.protocol.proofs.ViewSteps.{Front1, guard-front, load-front, store-front, front1, GrantFrom, from-stranger, from-sharer, from-owner, ShareFrom, share-stranger, share-sharer, as-sharer, Front3, no-front, wb-idle, wb-asked, ack-shared, ack-invalid, ack-store, ack-inv, front3}
@@ -54,7 +55,7 @@ Keeps t f = (rel : Relation) (cur : Option Access) (ask : Option Forward) (mark 
 at-tile-fine : {n : ℕ} {b : Bench} (t : ℕ) (f : Tile → Result Tile) → Keeps t f → Inv n b → Fine n (atTile t f b)
 unfolding atTile isMisfit
 at-tile-fine {n} t f keeps (inv {h} {l} {k} {mem} {out} {back} {ts} len hok all) =
-    by-test (Fine n) (ltb t (length ts)) _ _
+    by-test (Fine n) _ _ _
     (λ e. let lt : t < length ts = ltb-true t (length ts) e in here lt (all t (omega arith)))
     (λ e. fine-refused refl)
   where
@@ -69,11 +70,6 @@ unfolding atWord isMisfit
 at-word {t} {P} w k = by-test (Kept t P) (ltb w 8) _ _ (λ e. k) (λ e. kept-refused refl)
 
 -- ---- taking
-
--- a tile that is not there cannot be taken
-eligible-lt : (ts : List Tile) (b : Bool) (t : ℕ) → eligible b (tileAt ts t) ≡ true → t < length ts
-unfolding eligible
-eligible-lt ts b t = there (eligible b) ts t refl
 
 -- an idle home acts for nobody and has asked nothing
 pub at-rest : {x : Line} {t : ℕ} {rel : Relation} {cur : Option Access} {ask : Option Forward} {mark : Bool} {y : Tile} → Sees (idle x) t rel cur ask → TileOk rel cur ask mark y → (Sees (idle x) t rel none none) × (TileOk rel none none mark y)
@@ -139,7 +135,7 @@ module _ (n k t : ℕ) (mem : Words) (ts : List Tile) (y : Tile) (len : length t
       → Fine n (served t (serve n t writing (present d ws (sharedBy m))) k mem empty empty left)
   unfolding served serve grantOwner invalidate ownRight
   store-shared {m} {d} {ws} g p q e lm all =
-      by-test (λ (x : Move). Fine n (served t x k mem empty empty left)) (eqb (del m t) 0) _ _
+      by-test (λ (x : Move). Fine n (served t x k mem empty empty left)) _ _ _
       (λ z. grantOwner-fine n t t k mem left left-length d ws false t lt (here (at (grantee g) e p))
       (others (λ u ne. unshared-alone (last-gone m t u (eqb-true (del m t) 0 z) ne)) all))
       (λ z. invalidate-fine n t t k mem left left-length d ws m (del m t) (clearForStore t) (del-lt n m t lm) (eqb-false (del m t) 0 z) (del-inside m t) (store-ok lt (has-del m t))
@@ -203,8 +199,8 @@ taking-fine {n} (inv {l} {k} {mem} {ts} len (idle-ok {l = x} lok) all) = go (arb
     go : (o : Option ℕ) → arbitrate l k ts ≡ o → Fine n (takeFrom o x k mem empty empty ts)
     go none e = fine-refused refl
     go (some t) e =
-        let q : eligible (has k t) (tileAt ts t) ≡ true = firstOf-true (λ u. eligible (has k u) (tileAt ts u)) _ t e in
-        let lt : t < length ts = eligible-lt ts (has k t) t q in
+        let q : eligible (has k t) (tileAt ts t) ≡ true = first-passes (λ u. eligible (has k u) (tileAt ts u)) _ t e in
+        let lt : t < length ts = eligible-below (has k t) ts t q in
         chosen t q (omega arith) (all t (omega arith))
 taking-fine (inv len (load-out lt) all) = fine-refused refl
 taking-fine (inv len (load-back lt) all) = fine-refused refl
@@ -240,7 +236,7 @@ not-evicted : {t o : ℕ} {d : Bool} {ws : Words} → (o ≡ t → ⊥) → (rel
 not-evicted ne rel cur ask (asked-owner a) = absurd (ne refl)
 not-evicted ne rel cur ask (bystander n a) = exactly
 
-still-owed : {t r m owed : ℕ} {d : Bool} {ws : Words} {c : Clearing} → (r ≡ t → ⊥) → (rel : Relation) (cur : Option Access) (ask : Option Forward) → Sees (awaitingAcks d ws m owed c) t rel cur ask → Sees (awaitingAcks d ws m (del owed r) c) t rel cur ask
+still-owed : {t r m j owed : ℕ} {d : Bool} {ws : Words} {c : Clearing} → (r ≡ t → ⊥) → (rel : Relation) (cur : Option Access) (ask : Option Forward) → Sees (awaitingAcks d ws m owed c) t rel cur ask → Sees (awaitingAcks d ws j (del owed r) c) t rel cur ask
 still-owed {t} {r} {owed} ne rel cur ask (owing h) = owing (has-del-other owed r t ne ∙ h)
 still-owed {t} {r} {owed} ne rel cur ask (storer h) = storer (has-del-other owed r t ne ∙ h)
 still-owed {t} {r} {owed} ne rel cur ask (cleared-out h a) = cleared-out (has-del-other owed r t ne ∙ h) a
@@ -354,10 +350,10 @@ module _ (n l k t : ℕ) (mem : Words) (ts : List Tile) (y : Tile) (len : length
   unfolding moved invAck posted send sent
   ack-inv-fine {m} {owed} {d} {us} {c} h lo sub cok p e all =
       if-true (λ (z : Option Move). Fine n (moved z l k mem empty empty gone)) _ _ h
-      (by-test (λ (z : Move). Fine n (moved (some z) l k mem empty empty gone)) (eqb (del owed t) 0) _ _
+      (by-test (λ (z : Move). Fine n (moved (some z) l k mem empty empty gone)) _ _ _
       (λ z. moved-fine (cleared d us c) l k mem gone (last-fine c (eqb-true (del owed t) 0 z) h cok p e all))
       (λ z. fine (inv gone-length (acks-ok (del-lt n owed t lo) (eqb-false (del owed t) 0 z) (λ u q. sub u (del-inside owed t u q)) (less-owed h cok))
-      (each-tile ts t y (At k (Sees (awaitingAcks d us m (del owed t) c))) len (λ u lu ne. carry refl (still-owed ne) (all u lu)) (at (cleared-out (has-del owed t) (acked-apart h cok)) e p)))))
+      (each-tile ts t y (At k (Sees _)) len (λ u lu ne. carry refl (still-owed ne) (all u lu)) (at (cleared-out (has-del owed t) (acked-apart h cok)) e p)))))
 
   accept-fine : {rel : Relation} {cur : Option Access} {ask : Option Forward} {mark : Bool} {o : Option Reply} {h : Home} {out : Queue ToMemory} {back : Queue FromMemory}
       → Front3 rel cur ask mark o y → Sees h t rel cur ask → has k t ≡ mark → HomeOk n h out back → All n k (Sees h) ts
@@ -378,7 +374,7 @@ module _ (n l k t : ℕ) (mem : Words) (ts : List Tile) (y : Tile) (len : length
 from-tile-fine : {n : ℕ} {b : Bench} (t : ℕ) → Inv n b → Fine n (fromTileOn t b)
 unfolding fromTileOn isMisfit
 from-tile-fine {n} t (inv {h} {l} {k} {mem} {out} {back} {ts} len hok all) =
-    by-test (Fine n) (ltb t (length ts)) _ _
+    by-test (Fine n) _ _ _
     (λ e. let lt : t < length ts = ltb-true t (length ts) e in here (omega arith) (all t (omega arith)))
     (λ e. fine-refused refl)
   where
@@ -429,7 +425,7 @@ evict-shared-fine : {n : ℕ} (l k m : ℕ) (mem : Words) (ts : List Tile) (d : 
     → Fine n (moved (some (evictLine n d ws (sharedBy m))) l k mem empty empty ts)
 unfolding evictLine invalidate moved
 evict-shared-fine {n} l k m mem ts d ws len lm all =
-    by-test (λ (x : Move). Fine n (moved (some x) l k mem empty empty ts)) (eqb m 0) _ _
+    by-test (λ (x : Move). Fine n (moved (some x) l k mem empty empty ts)) _ _ _
     (λ e. moved-fine (leave d ws) l k mem ts
     (leave-fine n 0 l k mem ts len d ws (λ u lu. carry refl (unshared-alone (ap (λ (x : ℕ). has x u) (eqb-true m 0 e) ∙ has-none u)) (all u lu))))
     (λ e. invalidate-fine n 0 l k mem ts len d ws m m clearForEviction lm (eqb-false m 0 e) (λ u q. q) clearing-ok (λ u lu. carry refl all-owed (all u lu)))

@@ -1,20 +1,21 @@
 -- No request at the front of its NoC1 queue is passed over by more takings than there are other tiles: each taking of another tile
 -- brings the last taken nearer to it in circle order.
 use Prim.Native.Nat.{ℕ, suc, _+_, _-_, _≤_, _<_}
-use mathlib.Core.Path.{_≡_, refl, sym, ap, _∙_, subst}
+use mathlib.Core.Path.{_≡_, refl, sym, _∙_, subst}
 use mathlib.Core.Bool.{Bool, cond, true, false, not, false≢true}
-use mathlib.Core.List.{List, [], _∷_, _++_}
+use mathlib.Core.List.{List, [], _∷_}
 use mathlib.Core.Logic.{_⊎_, _≢_, inl, inr}
 use mathlib.Core.Option.{Option, some, none}
 use native.Mathlib.Omega.{arith}
-use borrow.Author.Tests.{ltb-true, ltb-false, lt-ltb, le-ltb, eqb-false}
+use borrow.Author.Tests.{lt-ltb, le-ltb, eqb-false}
 use lib.Dec.{ltb, eqb}
-use lib.ListN.{length, set, length-replicate, List·getD-eq-default}
+use lib.ListN.{length, set, length-replicate}
 use Rattle.bits.specs.Mask.{has}
 use Rattle.protocol.specs.Parts.{Words, empty, one, two, reading, writing, Request, loadReq, storeReq, wbGuardReq, Tile, tileOf, idle, awaitingLoad, awaitingOwner, awaitingAcks, awaitingStore, Bench, benchOf, Call, load, store, evict, taking, toTile, fromTile, memoryStep, memoryAck, homeEviction}
 use Rattle.protocol.specs.Home.{Move, move, range, serve}
 use Rattle.protocol.specs.Bench.{freshTile, fresh, tileAt, front, noc1, popNoc1, kindOf, circle, firstOf, eligible, arbitrate, served, take, takeFrom, takingOn, step}
 use Rattle.protocol.specs.Demand3.{after, runs, Answer, answer, answered, tilesOf, one-if, isRequest, requestAtFront, takes, takesAnother, passesOver, passedOver}
+use Rattle.protocol.proofs.Search.{split, First, first-range, pick, circle-first, first-passes, eligible-below}
 use Rattle.protocol.proofs.Sent.{lastTaken, asks, on-posted}
 use Rattle.protocol.proofs.Effect.{lastAfter, left}
 
@@ -30,67 +31,12 @@ behind : (n l t : ℕ) → t ≤ l → between n l t ≡ n - suc l + t
 unfolding between
 behind n l t h = rw (le-ltb l t h)
 
-split : (a b : ℕ) → (a < b) ⊎ (b ≤ a)
-split a b = go (ltb a b) refl
-  where
-    go : (e : Bool) → ltb a b ≡ e → (a < b) ⊎ (b ≤ a)
-    go true e = inl (ltb-true a b e)
-    go false e = inr (ltb-false a b e)
-
 pub between-below : (n l t : ℕ) → l < n → t < n → between n l t ≤ n - 1
 between-below n l t lb tb = go (split l t)
   where
     go : (l < t) ⊎ (t ≤ l) → between n l t ≤ n - 1
     go (inl h) = omega (arith, ahead n l t h)
     go (inr h) = omega (arith, behind n l t h)
-
--- The first that passes the test f, among i, i + 1, .. of which there are n, where t passes: t is not passed.
-abbrev First : ℕ → ℕ → ℕ → Option ℕ → Type 0
-First t i n none = (t < i) ⊎ (i + n ≤ t)
-First t i n (some u) = (i ≤ u) × (u < i + n) × ((t < i) ⊎ (u ≤ t))
-
-first-range : (f : ℕ → Bool) (t : ℕ) → f t ≡ true → (n i : ℕ) → First t i n (firstOf f (range i n))
-unfolding firstOf range
-first-range f t ft ℕ.zero i = go (split t i)
-  where
-    go : (t < i) ⊎ (i ≤ t) → (t < i) ⊎ (i + 0 ≤ t)
-    go (inl h) = inl h
-    go (inr h) = inr (omega arith)
-first-range f t ft (suc n) i = go (f i) refl (first-range f t ft n (suc i))
-  where
-    later : f i ≡ false → (t < suc i) → t < i
-    later e h = let d : t ≢ i = λ q. false≢true (sym e ∙ (ap f (sym q) ∙ ft)) in omega arith
-
-    shift : f i ≡ false → (o : Option ℕ) → First t (suc i) n o → First t i (suc n) o
-    shift e none (inl h) = inl (later e h)
-    shift e none (inr h) = inr (omega arith)
-    shift e (some u) h = (omega (arith, h .0), omega (arith, h .1), side (h .2))
-      where
-        side : (t < suc i) ⊎ (u ≤ t) → (t < i) ⊎ (u ≤ t)
-        side (inl g) = inl (later e g)
-        side (inr g) = inr g
-
-    go : (e : Bool) → f i ≡ e → First t (suc i) n (firstOf f (range (suc i) n)) → First t i (suc n) (cond e (some i) (firstOf f (range (suc i) n)))
-    go true e h = (omega arith, omega arith, split t i)
-    go false e h = shift e (firstOf f (range (suc i) n)) h
-
-pick : Option ℕ → Option ℕ → Option ℕ
-pick none o = o
-pick (some u) o = some u
-
-first-append : (f : ℕ → Bool) (xs ys : List ℕ) → firstOf f (xs ++ ys) ≡ pick (firstOf f xs) (firstOf f ys)
-unfolding firstOf pick
-first-append f [] ys = refl
-first-append f (x ∷ xs) ys = go (f x) (first-append f xs ys)
-  where
-    go : (e : Bool) → firstOf f (xs ++ ys) ≡ pick (firstOf f xs) (firstOf f ys) → cond e (some x) (firstOf f (xs ++ ys)) ≡ pick (cond e (some x) (firstOf f xs)) (firstOf f ys)
-    go true h = refl
-    go false h = h
-
--- the search goes on from the tile after the last taken, and then from 0
-circle-first : (f : ℕ → Bool) (l n : ℕ) → firstOf f (circle l n) ≡ pick (firstOf f (range (suc l) (n - suc l))) (firstOf f (range 0 (suc l)))
-unfolding circle
-circle-first f l n = first-append f (range (suc l) (n - suc l)) (range 0 (suc l))
 
 -- the first in circle order after l that passes, where t passes: t, or nearer to t than l
 abbrev Nearer : ℕ → ℕ → ℕ → Option ℕ → Type 0
@@ -117,21 +63,7 @@ nearer f n l t ft lb tb =
     go none (some u) h g = λ ne. wrapped u (omega (arith, g .1)) ne h (g .2)
     go none none h g = tt
 
--- what is found passes the test
-abbrev Passes : (ℕ → Bool) → Option ℕ → Type 0
-Passes f none = Unit {0}
-Passes f (some u) = f u ≡ true
-
-first-passes : (f : ℕ → Bool) (xs : List ℕ) → Passes f (firstOf f xs)
-unfolding firstOf
-first-passes f [] = tt
-first-passes f (x ∷ xs) = go (f x) refl (first-passes f xs)
-  where
-    go : (e : Bool) → f x ≡ e → Passes f (firstOf f xs) → Passes f (cond e (some x) (firstOf f xs))
-    go true e h = e
-    go false e h = h
-
--- A tile whose NoC1 front is a request can be taken, and a tile that can be taken is one of the bench.
+-- a tile whose NoC1 front is a request can be taken
 asks-eligible : (mark : Bool) (x : Tile) → asks x ≡ true → eligible mark x ≡ true
 unfolding asks noc1 front isRequest eligible
 asks-eligible mark (tileOf c p empty q2 q3) e = e
@@ -141,14 +73,6 @@ asks-eligible mark (tileOf c p (one wbGuardReq) q2 q3) e = absurd (false≢true 
 asks-eligible mark (tileOf c p (two (loadReq w) m) q2 q3) e = e
 asks-eligible mark (tileOf c p (two (storeReq w) m) q2 q3) e = e
 asks-eligible mark (tileOf c p (two wbGuardReq m) q2 q3) e = absurd (false≢true e)
-
-eligible-below : (mark : Bool) (ts : List Tile) (u : ℕ) → eligible mark (tileAt ts u) ≡ true → u < length ts
-unfolding eligible
-eligible-below mark ts u e = go (split u (length ts))
-  where
-    go : (u < length ts) ⊎ (length ts ≤ u) → u < length ts
-    go (inl h) = h
-    go (inr h) = absurd (false≢true (ap (eligible mark) (sym (List·getD-eq-default ts freshTile h)) ∙ e))
 
 asks-below : (ts : List Tile) (t : ℕ) → asks (tileAt ts t) ≡ true → t < length ts
 asks-below ts t e = eligible-below true ts t (asks-eligible true (tileAt ts t) e)
@@ -160,7 +84,7 @@ choice (benchOf h l k mem out back ts) = arbitrate l k ts
 choice-below : (b : Bench) (v : ℕ) → choice b ≡ some v → v < length (tilesOf b)
 unfolding choice arbitrate tilesOf
 choice-below (benchOf h l k mem out back ts) v e =
-    eligible-below (has k v) ts v (subst (Passes (λ t. eligible (has k t) (tileAt ts t))) e (first-passes (λ t. eligible (has k t) (tileAt ts t)) _))
+    eligible-below (has k v) ts v (first-passes (λ t. eligible (has k t) (tileAt ts t)) _ v e)
 
 choice-nearer : (b : Bench) (t v : ℕ) → choice b ≡ some v → lastTaken b < length (tilesOf b) → asks (tileAt (tilesOf b) t) ≡ true → v ≢ t → between (length (tilesOf b)) v t < between (length (tilesOf b)) (lastTaken b) t
 unfolding choice arbitrate tilesOf lastTaken

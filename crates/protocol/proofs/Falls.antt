@@ -13,6 +13,7 @@ use Rattle.protocol.specs.Tile.{Received, misfit, filled, receive, recei
 use Rattle.protocol.specs.Home.{Move, move, range, among, members, grantShared, grantOwner, ownRight, askedFor, askOwner, invalidateTo, invalidate, leave, serve, writeBack, wordsAfter, dirtyAfter, loadAckS, loadAckI, storeAck, cleared, invAck, acknowledged}
 use Rattle.protocol.specs.Bench.{tileAt, front, rest, noc1, noc3, popNoc1, popNoc3, settle, atTile, posted, kindOf, arbitrate, served, take, takeFrom, takingOn, writtenBack, moved, accept, fromTileOn, memoryServes, memoryStepOn, acceptAck, memoryAckOn, step}
 use Rattle.protocol.specs.Demand3.{kept, after, answered, isAccepted, canBeAccepted, isDelivery, tilesOf}
+use Rattle.protocol.proofs.Tests.{by-test}
 use Rattle.protocol.proofs.Weight.{queueWeight, requestWeight, forwardWeight, replyWeight, outWeight, backWeight, tileWeight, causeWeight, clearingWeight, homeWeight, measure}
 use Rattle.protocol.proofs.Sent.{set-weight, messageWeight, messagesWeight, on-posted}
 use Rattle.protocol.proofs.Effect.{Fits, receives}
@@ -100,18 +101,12 @@ unfolding leave homeWeight messagesWeight messageWeight outWeight
 leave-acks n h true ws le = omega arith
 leave-acks n h false ws le = omega arith
 
--- a test before them
-on-test : (P : Option Move → Type 0) (e : Bool) (o : Option Move) → P none → P o → P (cond e o none)
-on-test P true o p q = q
-on-test P false o p q = p
-
 load-acks-s : (n t : ℕ) (x : Option Words) (h : Home) → Acks n h (loadAckS t x h)
 unfolding loadAckS homeWeight causeWeight
 load-acks-s n t x (idle l) = tt
 load-acks-s n t x (awaitingLoad r a l) = tt
 load-acks-s n t x (awaitingOwner d us o (request r reading)) =
-    on-test (Acks n (awaitingOwner d us o (request r reading))) (eqb o t) (some (grantShared (dirtyAfter x d) (wordsAfter x us) (add 0 o) r)) tt
-    (share-acks n (awaitingOwner d us o (request r reading)) (dirtyAfter x d) (wordsAfter x us) (add 0 o) r (omega arith))
+    by-test (Acks n (awaitingOwner d us o (request r reading))) (eqb o t) _ _ (λ e. share-acks n (awaitingOwner d us o (request r reading)) (dirtyAfter x d) (wordsAfter x us) (add 0 o) r (omega arith)) (λ e. tt)
 load-acks-s n t x (awaitingOwner d us o (request r writing)) = tt
 load-acks-s n t x (awaitingOwner d us o eviction) = tt
 load-acks-s n t x (awaitingAcks d us m owed c) = tt
@@ -122,8 +117,7 @@ unfolding loadAckI homeWeight causeWeight
 load-acks-i n t (idle l) = tt
 load-acks-i n t (awaitingLoad r a l) = tt
 load-acks-i n t (awaitingOwner d us o (request r reading)) =
-    on-test (Acks n (awaitingOwner d us o (request r reading))) (eqb o t) (some (grantOwner d us Right.exclusive false r)) tt
-    (grant-acks n (awaitingOwner d us o (request r reading)) d us Right.exclusive false r (omega arith))
+    by-test (Acks n (awaitingOwner d us o (request r reading))) (eqb o t) _ _ (λ e. grant-acks n (awaitingOwner d us o (request r reading)) d us Right.exclusive false r (omega arith)) (λ e. tt)
 load-acks-i n t (awaitingOwner d us o (request r writing)) = tt
 load-acks-i n t (awaitingOwner d us o eviction) = tt
 load-acks-i n t (awaitingAcks d us m owed c) = tt
@@ -135,11 +129,9 @@ store-acks n t x (idle l) = tt
 store-acks n t x (awaitingLoad r a l) = tt
 store-acks n t x (awaitingOwner d us o (request r reading)) = tt
 store-acks n t x (awaitingOwner d us o (request r writing)) =
-    on-test (Acks n (awaitingOwner d us o (request r writing))) (eqb o t) (some (grantOwner (dirtyAfter x d) (wordsAfter x us) Right.modified false r)) tt
-    (grant-acks n (awaitingOwner d us o (request r writing)) (dirtyAfter x d) (wordsAfter x us) Right.modified false r (omega arith))
+    by-test (Acks n (awaitingOwner d us o (request r writing))) (eqb o t) _ _ (λ e. grant-acks n (awaitingOwner d us o (request r writing)) (dirtyAfter x d) (wordsAfter x us) Right.modified false r (omega arith)) (λ e. tt)
 store-acks n t x (awaitingOwner d us o eviction) =
-    on-test (Acks n (awaitingOwner d us o eviction)) (eqb o t) (some (leave (dirtyAfter x d) (wordsAfter x us))) tt
-    (leave-acks n (awaitingOwner d us o eviction) (dirtyAfter x d) (wordsAfter x us) (omega arith))
+    by-test (Acks n (awaitingOwner d us o eviction)) (eqb o t) _ _ (λ e. leave-acks n (awaitingOwner d us o eviction) (dirtyAfter x d) (wordsAfter x us) (omega arith)) (λ e. tt)
 store-acks n t x (awaitingAcks d us m owed c) = tt
 store-acks n t x (awaitingStore l) = tt
 
@@ -153,14 +145,10 @@ unfolding invAck homeWeight messagesWeight
 inv-acks n t (idle l) = tt
 inv-acks n t (awaitingLoad r a l) = tt
 inv-acks n t (awaitingOwner d us o c) = tt
-inv-acks n t (awaitingAcks d us m owed c) = on-test (Acks n (awaitingAcks d us m owed c)) (has owed t) (some (last (eqb (del owed t) 0))) tt (acks (eqb (del owed t) 0))
-  where
-    last : Bool → Move
-    last e = cond e (cleared d us c) (move (awaitingAcks d us m (del owed t) c) [])
-
-    acks : (e : Bool) → Acks n (awaitingAcks d us m owed c) (some (last e))
-    acks true = clear-acks n d us m owed c
-    acks false = omega arith
+inv-acks n t (awaitingAcks d us m owed c) =
+    by-test (Acks n (awaitingAcks d us m owed c)) (has owed t) _ _
+    (λ e. by-test (λ (x : Move). Acks n (awaitingAcks d us m owed c) (some x)) (eqb (del owed t) 0) _ _ (λ z. clear-acks n d us m owed c) (λ z. omega arith))
+    (λ e. tt)
 inv-acks n t (awaitingStore l) = tt
 
 memory-acks : (n : ℕ) (m : FromMemory) (h : Home) → Acks n h (acknowledged m h)
@@ -187,17 +175,9 @@ write-keeps t ws true h = tt
 write-keeps t ws false (idle absent) = tt
 write-keeps t ws false (idle (present d us uncached)) = tt
 write-keeps t ws false (idle (present d us (sharedBy m))) = tt
-write-keeps t ws false (idle (present d us (ownedBy o))) = go (eqb o t)
-  where
-    go : (e : Bool) → Keeps (idle (present d us (ownedBy o))) (cond e (some (idle (present true ws uncached))) none)
-    go true = refl
-    go false = tt
+write-keeps t ws false (idle (present d us (ownedBy o))) = by-test (Keeps (idle (present d us (ownedBy o)))) (eqb o t) _ _ (λ e. refl) (λ e. tt)
 write-keeps t ws false (awaitingLoad r a l) = tt
-write-keeps t ws false (awaitingOwner d us o c) = go (eqb o t)
-  where
-    go : (e : Bool) → Keeps (awaitingOwner d us o c) (cond e (some (awaitingOwner true ws o c)) none)
-    go true = refl
-    go false = tt
+write-keeps t ws false (awaitingOwner d us o c) = by-test (Keeps (awaitingOwner d us o c)) (eqb o t) _ _ (λ e. refl) (λ e. tt)
 write-keeps t ws false (awaitingAcks d us m owed c) = tt
 write-keeps t ws false (awaitingStore l) = tt
 
@@ -323,16 +303,8 @@ unfolding serve homeWeight causeWeight clearingWeight messagesWeight messageWeig
 serves n t a absent le = omega arith
 serves n t a (present d ws uncached) le = omega arith
 serves n t reading (present d ws (sharedBy m)) le = omega arith
-serves n t writing (present d ws (sharedBy m)) le = go (eqb (del m t) 0)
-  where
-    go : (e : Bool) → Serves n (cond e (grantOwner d ws Right.modified false t) (invalidate n d ws m (del m t) (clearForStore t)))
-    go true = omega arith
-    go false = omega (arith, invalidations n (members (del m t) n), members-length (del m t) n)
-serves n t a (present d ws (ownedBy o)) le = go (eqb o t)
-  where
-    go : (e : Bool) → Serves n (cond e (grantOwner d ws (ownRight a) false t) (askOwner d ws o (request t a)))
-    go true = omega arith
-    go false = omega (arith, asked-weight (request t a))
+serves n t writing (present d ws (sharedBy m)) le = by-test (Serves n) (eqb (del m t) 0) _ _ (λ e. omega arith) (λ e. omega (arith, invalidations n (members (del m t) n), members-length (del m t) n))
+serves n t a (present d ws (ownedBy o)) le = by-test (Serves n) (eqb o t) _ _ (λ e. omega arith) (λ e. omega (arith, asked-weight (request t a)))
 
 -- a tile with something on NoC1 is one of the bench
 some-tile : (ts : List Tile) (u : ℕ) (m : Request) → front (noc1 (tileAt ts u)) ≡ some m → 1 ≤ length ts

@@ -1,4 +1,7 @@
--- Demand 3 over the rules. What needs no invariant:
+-- Demand 3 over the rules. Tests and searches decided:
+pub mod Tests
+pub mod Search
+-- What needs no invariant:
 pub mod Weight
 pub mod Sent
 pub mod Effect
@@ -8,7 +11,6 @@ pub mod Falls
 pub mod Bounded
 pub mod Beats
 -- The invariant:
-pub mod Tests
 pub mod Invariant
 pub mod TileSteps
 pub mod ViewSteps

@@ -18,7 +18,8 @@ use Rattle.protocol.specs.Bench.{freshTile, tileAt, front, rest, send, s
 use Rattle.protocol.specs.Demand3.{answer, isAccepted, isMisfit, canBeAccepted, isDelivery, isWaiting, tilesOf, isEmpty, noc2, memoryNext, fromNext, toNext, next, Quiet}
 use Rattle.protocol.specs.Demand3 as demand
 use Rattle.protocol.proofs.Invariant.{Relation, join, resting, loadQueued, storeQueued, sharedGranted, exclusiveGranted, modifiedGranted, not-asked, ask-load, ask-store, ask-inv, stranger-plain, stranger-in, sharer-plain, sharer-replied, owner-plain, owner-replied, owner-shared, owner-out, owner-out-replied, owner-in, owner-in-replied, TileOk, ok, Sees, asked-owner, requester, bystander, owing, storer, cleared-out, HomeOk, idle-ok, load-out, load-back, owner-ok, acks-ok, store-out, store-back, At, at, All, Inv, inv, Fine, fine-refused, fine}
-use Rattle.protocol.proofs.Tests.{false-true, clash, at-or-not, if-true, firstOf-true, range-none, circle-none, everywhere, there}
+use Rattle.protocol.proofs.Tests.{false-true, clash, at-or-not, if-true, everywhere, there}
+use Rattle.protocol.proofs.Search.{first-passes, range-none, circle-none}
 use Rattle.protocol.proofs.Calls.{at-rest, step-fine}
 
 -- ---- what is refused, if at all, by 8 or 9 alone is accepted under the invariant
@@ -206,7 +207,7 @@ unfolding canBeAccepted step takingOn takeFrom arbitrate
 taking-accepted {l} {k} {x} {mem} {ts} t i e =
     ready-accepted
     (subst (λ (o : Option ℕ). Ready (takeFrom o x k mem empty empty ts)) (sym e)
-    (take-ready t (has k t) (tileAt ts t) x k mem empty empty (set ts t (popNoc1 (tileAt ts t))) (firstOf-true (λ u. eligible (has k u) (tileAt ts u)) _ t e)))
+    (take-ready t (has k t) (tileAt ts t) x k mem empty empty (set ts t (popNoc1 (tileAt ts t))) (first-passes (λ u. eligible (has k u) (tileAt ts u)) _ t e)))
     (step-fine taking i)
 
 -- a tile with empty queues that does not wait
@@ -271,8 +272,8 @@ settled {n} (inv {h} {l} {k} {mem} {out} {back} {ts} len hok all) refusal =
     go : (o : Option ℕ) → firstOf (λ t. not (isEmpty (noc2 (tileAt ts t)))) (range 0 (length ts)) ≡ o
         → (p : Option ℕ) → firstOf (λ t. not (isEmpty (noc3 (tileAt ts t)))) (range 0 (length ts)) ≡ p
         → canBeAccepted (toNext o p (isEmpty out) (isEmpty back)) (benchOf h l k mem out back ts) ≡ false → Settled (benchOf h l k mem out back ts)
-    go (some t) e p q z = clash (to-accepted n h l k mem out back ts i t (firstOf-true (λ u. not (isEmpty (noc2 (tileAt ts u)))) _ t e)) z
-    go none e (some t) q z = clash (from-accepted n h l k mem out back ts i t (firstOf-true (λ u. not (isEmpty (noc3 (tileAt ts u)))) _ t q)) z
+    go (some t) e p q z = clash (to-accepted n h l k mem out back ts i t (first-passes (λ u. not (isEmpty (noc2 (tileAt ts u)))) _ t e)) z
+    go none e (some t) q z = clash (from-accepted n h l k mem out back ts i t (first-passes (λ u. not (isEmpty (noc3 (tileAt ts u)))) _ t q)) z
     go none e none q z =
         home-settled i len hok all
         (λ t lt. (

@@ -1,16 +1,13 @@
--- Tests decided: `cond`, and the first number that passes one.
-use Prim.Native.Nat.{ℕ, zero, suc, _+_, _-_, _≤_, _<_}
+-- Tests decided: what holds of `cond`, of one number and of the others, of tiles that are there and of those that are not.
+use Prim.Native.Nat.{ℕ, _<_}
 use mathlib.Core.Path.{_≡_, refl, sym, subst, _∙_}
 use mathlib.Core.Bool.{Bool, true, false, cond}
-use mathlib.Core.List.{List, [], _∷_, _++_}
-use mathlib.Core.Option.{Option, some, none}
-use native.Mathlib.Omega.{arith}
+use mathlib.Core.List.{List}
 use lib.Dec.{T, eqb, ltb}
 use lib.ListN.{length, List·getD-eq-default}
 use borrow.Author.Tests.{eqb-true, eqb-false, eq-eqb, ltb-true, ltb-false}
 use Rattle.protocol.specs.Parts.{Tile}
-use Rattle.protocol.specs.Home.{range}
-use Rattle.protocol.specs.Bench.{freshTile, tileAt, circle, firstOf}
+use Rattle.protocol.specs.Bench.{freshTile, tileAt}
 
 pub false-true : false ≡ true → {A : Type 0} → A
 false-true e = absurd (subst T (sym e) tt)
@@ -40,50 +37,6 @@ at-or-not P t u here other = go (eqb t u) refl
     go : (b : Bool) → eqb t u ≡ b → P u
     go true e = subst P (eqb-true t u e) here
     go false e = other (eqb-false t u e)
-
--- ---- the first that passes
-
-some-none : {A B : Type 0} {a : A} → some a ≡ none → B
-some-none e = let z : _≡_ {A = ℕ} 0 1 = cc in absurd (omega arith)
-
-pub firstOf-true : (f : ℕ → Bool) (us : List ℕ) (t : ℕ) → firstOf f us ≡ some t → f t ≡ true
-unfolding firstOf
-firstOf-true f [] t e = some-none (sym e)
-firstOf-true f (u ∷ us) t e =
-    let later = firstOf-true f us t in
-    by-test (λ (o : Option ℕ). o ≡ some t → f t ≡ true) (f u) _ _ (λ q z. let w : u ≡ t = cc in subst (λ (x : ℕ). f x ≡ true) w q) (λ q. later) e
-
--- nothing found means that the test fails everywhere
-firstOf-none : (f : ℕ → Bool) (i j t : ℕ) → firstOf f (range i j) ≡ none → i ≤ t → t < i + j → f t ≡ false
-unfolding firstOf range
-firstOf-none f i zero t e a b = absurd (omega arith)
-firstOf-none f i (suc j) t e a b =
-    let later = firstOf-none f (suc i) j t in
-    by-test (λ (o : Option ℕ). o ≡ none → f t ≡ false) (f i) _ _
-    (λ q z. some-none z)
-    (λ q z. at-or-not (λ (u : ℕ). f u ≡ false) i t q (λ ne. later z (omega arith) (omega arith)))
-    e
-
-firstOf-append : (f : ℕ → Bool) (us vs : List ℕ) → firstOf f (us ++ vs) ≡ none → (firstOf f us ≡ none) × (firstOf f vs ≡ none)
-unfolding firstOf
-firstOf-append f [] vs e = (refl, e)
-firstOf-append f (u ∷ us) vs e = go (f u) e (firstOf-append f us vs)
-  where
-    go : (b : Bool) → cond b (some u) (firstOf f (us ++ vs)) ≡ none → (firstOf f (us ++ vs) ≡ none → (firstOf f us ≡ none) × (firstOf f vs ≡ none)) → (cond b (some u) (firstOf f us) ≡ none) × (firstOf f vs ≡ none)
-    go true z later = some-none z
-    go false z later = later z
-
--- below n, and in circle order after l
-pub range-none : (f : ℕ → Bool) (n t : ℕ) → firstOf f (range 0 n) ≡ none → t < n → f t ≡ false
-range-none f n t e lt = firstOf-none f 0 n t e (omega arith) (omega arith)
-
-pub circle-none : (f : ℕ → Bool) (l n t : ℕ) → firstOf f (circle l n) ≡ none → t < n → f t ≡ false
-unfolding circle
-circle-none f l n t e lt = go (ltb l t) refl (firstOf-append f (range (suc l) (n - suc l)) (range 0 (suc l)) e)
-  where
-    go : (b : Bool) → ltb l t ≡ b → (firstOf f (range (suc l) (n - suc l)) ≡ none) × (firstOf f (range 0 (suc l)) ≡ none) → f t ≡ false
-    go true q z = let h : l < t = ltb-true l t q in firstOf-none f (suc l) (n - suc l) t (z .0) (omega arith) (omega arith)
-    go false q z = let h : t ≤ l = ltb-false l t q in range-none f (suc l) t (z .1) (omega arith)
 
 -- ---- tiles that are there
 
