@@ -1,0 +1,11 @@
+use Rattle.bits.specs.Mask.{has}
+use borrow.Author.Needs.{needs}
+use Rattle.bits.proofs.has.Statement.{statement}
+use Rattle.bits.proofs.has.Tie as tie
+
+returns : tie.Need-returns
+unfolding has
+returns c = cc
+
+pub has-spec : {M : Type 1} → statement M
+has-spec = tie.close (tie.spec (λ c κs. search needs) returns)

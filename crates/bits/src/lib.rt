@@ -1,0 +1,73 @@
+// Words of 64 bits: shifts of any length, fields by place and width, and sets of tiles as bit masks.
+// Every call has an answer for every input: what a word cannot hold is 0 or is left as it is, as the definitions say.
+ghost use mathlib.Core.Path.{_≡_};
+ghost use Prim.Native.Nat.{_*_, _/_, _%_, _^_};
+ghost use Rattle.bits.specs.Field.{cut, put64};
+ghost use Rattle.bits.specs.Mask.{has, add64, del};
+
+// w moved down by n places. Past the word's end nothing is left.
+pub fn shr(w: u64, n: u64) -> u64
+    ensures { λ r. ⌜ r ≡ w / 2 ^ n ⌝ }
+{
+    if n < 64 { w >> n } else { 0 }
+}
+
+// w moved up by n places, of which 64 bits stay.
+pub fn shl(w: u64, n: u64) -> u64
+    ensures { λ r. ⌜ r ≡ w * 2 ^ n % 2 ^ 64 ⌝ }
+{
+    if n < 64 { w << n } else { 0 }
+}
+
+// The lowest n bits of w.
+pub fn low(w: u64, n: u64) -> u64
+    ensures { λ r. ⌜ r ≡ w % 2 ^ n ⌝ }
+{
+    if n < 64 { w & ((1 << n) - 1) } else { w }
+}
+
+// The field of `width` bits of w from `place` on.
+pub fn cut(w: u64, place: u64, width: u64) -> u64
+    ensures { λ r. ⌜ r ≡ cut w place width ⌝ }
+{
+    low(shr(w, place), width)
+}
+
+// w with the field of `width` bits from `place` on set to v. A field that does not lie inside the word is not set.
+pub fn put(w: u64, place: u64, width: u64, v: u64) -> u64
+    ensures { λ r. ⌜ r ≡ put64 w place width v ⌝ }
+{
+    if place <= 64 {
+        if width <= 64 - place {
+            let end = place + width;
+            let above = shl(shr(w, end), end);
+            let field = shl(low(v, width), place);
+            above | (field | low(w, place))
+        } else {
+            w
+        }
+    } else {
+        w
+    }
+}
+
+// Is tile t in the mask m?
+pub fn has(m: u64, t: u64) -> bool
+    ensures { λ r. ⌜ r ≡ has m t ⌝ }
+{
+    cut(m, t, 1) == 1
+}
+
+// The mask m with tile t.
+pub fn add(m: u64, t: u64) -> u64
+    ensures { λ r. ⌜ r ≡ add64 m t ⌝ }
+{
+    if t < 64 { m | (1 << t) } else { m }
+}
+
+// The mask m without tile t.
+pub fn del(m: u64, t: u64) -> u64
+    ensures { λ r. ⌜ r ≡ del m t ⌝ }
+{
+    if t < 64 { m - (m & (1 << t)) } else { m }
+}
