@@ -1,0 +1,10 @@
+use borrow.Author.Needs.{needs}
+use Rattle.flit_fields.proofs.rules.fields_allowed.Statement.{statement}
+use Rattle.flit_fields.proofs.rules.fields_allowed.Tie as tie
+
+returns : tie.Need-returns
+returns c = cc
+
+pub fields-allowed-spec : {M : Type 1} → statement M
+fields-allowed-spec =
+    tie.close (tie.spec (λ c κs. search needs) (λ c κs. search needs) (λ c κs. search needs) returns)

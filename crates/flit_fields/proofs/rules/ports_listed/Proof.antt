@@ -1,0 +1,9 @@
+use borrow.Author.Needs.{needs}
+use Rattle.flit_fields.proofs.rules.ports_listed.Statement.{statement}
+use Rattle.flit_fields.proofs.rules.ports_listed.Tie as tie
+
+returns : tie.Need-returns
+returns c = cc
+
+pub ports-listed-spec : {M : Type 1} → statement M
+ports-listed-spec = tie.close (tie.spec (λ c κs. search needs) (λ c κs. search needs) returns)

@@ -1,0 +1,9 @@
+use borrow.Author.Needs.{needs}
+use Rattle.flit_fields.proofs.rules.reserved_clear.Statement.{statement}
+use Rattle.flit_fields.proofs.rules.reserved_clear.Tie as tie
+
+returns : tie.Need-returns
+returns c = cc
+
+pub reserved-clear-spec : {M : Type 1} → statement M
+reserved-clear-spec = tie.close (tie.spec (λ c κs. search needs) (λ c κs. search needs) (λ c κs. search needs) returns)

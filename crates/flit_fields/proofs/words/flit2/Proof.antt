@@ -1,0 +1,9 @@
+use borrow.Author.Needs.{needs}
+use Rattle.flit_fields.proofs.words.flit2.Statement.{statement}
+use Rattle.flit_fields.proofs.words.flit2.Tie as tie
+
+returns : tie.Need-returns
+returns c = cc
+
+pub flit2-spec : {M : Type 1} → statement M
+flit2-spec = tie.close (tie.spec (λ c κs. search needs) (λ c κs. search needs) (λ c κs. search needs) (λ c κs. search needs) returns)
