@@ -7,9 +7,11 @@ use native.Mathlib.Nat.{add-zero, add-suc, suc-add, zero-add, le-of-suc-le-suc, 
 use native.Mathlib.Omega.{arith}
 use lib.Dec.{T, ltb, eqb, ltb→lt}
 use lib.ListN.{length, getD}
-use borrow.Author.Tests.{ne-eqb}
+use borrow.Author.Tests.{ne-eqb, eqb-true}
+use mathlib.Core.Logic.{_⊎_, inl, inr, ⊎-elim}
 use Rattle.flit_fields.specs.declared.Row.{Row}
-use Rattle.flit_fields.specs.Table.{Line, lines, member, find, rowOf, absent}
+use Rattle.flit_fields.specs.Table.{Line, lines, member, find, rowOf, absent, extra}
+use Rattle.flit_fields.specs.Rules.{known, lengthAllowed}
 
 -- f at i, i + 1, .. for n numbers
 abbrev pub from : (ℕ → Row) → ℕ → ℕ → List Row
@@ -75,8 +77,34 @@ found p t (l ∷ ls) e a = pick (member t (l .types)) (and-left (p (l .row)) (ev
     pick false x y = y
 
 -- the lengths of a row are those of its header flits, with eight words of data or none
-abbrev pub extra : Row → ℕ
-extra row = cond (row .three) 2 0
-
 lengths : Row → Bool
-lengths row = (eqb (row .short) (extra row) || eqb (row .short) (extra row + 8)) && (eqb (row .long) (extra row) || eqb (row .long) (extra row + 8))
+lengths row = not (known row) || (eqb (row .short) (extra row) || eqb (row .short) (extra row + 8)) && (eqb (row .long) (extra row) || eqb (row .long) (extra row + 8))
+
+is-true : (b : Bool) → T b → b ≡ true
+is-true true h = refl
+is-true false h = absurd h
+
+either : (a b e : ℕ) → (eqb a b || eqb a e) ≡ true → (a ≡ b) ⊎ (a ≡ e)
+either a b e h = pick (eqb a b) refl h
+  where
+    pick : (t : Bool) → eqb a b ≡ t → (t || eqb a e) ≡ true → (a ≡ b) ⊎ (a ≡ e)
+    pick true p q = inl (eqb-true a b p)
+    pick false p q = inr (eqb-true a e q)
+
+fits-row : (r : Row) (n : ℕ) → T (eqb n (extra r) || eqb n (extra r + 8)) → (n ≡ extra r) ⊎ (n ≡ extra r + 8)
+fits-row r n p = either n (extra r) (extra r + 8) (is-true (eqb n (extra r) || eqb n (extra r + 8)) p)
+
+row-fits : (r : Row) (n : ℕ) → T (lengths r) → known r ≡ true → lengthAllowed r n ≡ true → (n ≡ extra r) ⊎ (n ≡ extra r + 8)
+unfolding lengths
+row-fits r n p k l =
+    let short = eqb (r .short) (extra r) || eqb (r .short) (extra r + 8) in
+    let long = eqb (r .long) (extra r) || eqb (r .long) (extra r + 8) in
+    let both : T (short && long) = rw k at p in
+    ⊎-elim
+    (λ (e : n ≡ r .short). rw e (fits-row r (r .short) (and-left short long both)))
+    (λ (e : n ≡ r .long). rw e (fits-row r (r .long) (and-right short long both)))
+    (either n (r .short) (r .long) l)
+
+pub row-lengths : (t n : ℕ) → known (rowOf t) ≡ true → lengthAllowed (rowOf t) n ≡ true → (n ≡ extra (rowOf t)) ⊎ (n ≡ extra (rowOf t) + 8)
+unfolding rowOf lengths every
+row-lengths t n = row-fits (find t lines) n (found lengths t lines tt tt)

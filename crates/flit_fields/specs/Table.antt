@@ -123,3 +123,7 @@ find t (l ∷ ls) = cond (member t (l .types)) (l .row) (find t ls)
 -- the row of a type
 unfoldable pub rowOf : ℕ → Row
 rowOf t = find t lines
+
+-- the header flits after the first
+abbrev pub extra : Row → ℕ
+extra row = cond (row .three) 2 0
