@@ -40,6 +40,7 @@ pub record HeaderFits (h : Header) : Type 0 where
   pub from : NodeFits (h .from)
 
 pub header-flits : (h : Header) (n : ℕ) → HeaderFits h → headerOf (flit1Of h n) (flit2Of h) (flit3Of h) ≡ h
+unfolding headerOf flit1Of flit2Of flit3Of
 header-flits h n f =
     let a : h .opcode < 2 ^ 8 = f .opcode in
     let b : h .tag < 2 ^ 8 = f .tag in
@@ -62,9 +63,11 @@ header-flits h n f =
     simp (cut-put-fits, cut-put-other)
 
 pub length-flits : (h : Header) (n : ℕ) → n < 2 ^ 8 → lengthOf (flit1Of h n) ≡ n
+unfolding flit1Of
 length-flits h n f = simp (cut-put-fits, cut-put-other)
 
 pub opcode-flits : (h : Header) (n : ℕ) → h .opcode < 2 ^ 8 → opcodeOf (flit1Of h n) ≡ h .opcode
+unfolding flit1Of
 opcode-flits h n f = simp (cut-put-fits, cut-put-other)
 
 cut-low : (w k : ℕ) → cut w 0 k ≡ w % 2 ^ k
@@ -74,6 +77,7 @@ node-next : (w : ℕ) → w < 2 ^ 64 → setNode (nodeOf w) (w % 2 ^ 30) ≡ w
 node-next w h = rw (put-next w 30 4, put-next w 34 8, put-next w 42 8, put-next w 50 14) (mod-eq-of-lt h)
 
 pub flit1-header : (f1 f2 f3 : ℕ) → f1 < 2 ^ 64 → flit1Of (headerOf f1 f2 f3) (lengthOf f1) ≡ f1
+unfolding headerOf flit1Of
 flit1-header f1 f2 f3 h =
     go 0 (sym (mod-one f1))
   where
@@ -81,21 +85,25 @@ flit1-header f1 f2 f3 h =
     go z e = rw (e, put-next f1 0 1, put-next f1 1 2, put-next f1 3 1, put-next f1 4 2, put-next f1 6 8, put-next f1 14 8, put-next f1 22 8) (node-next f1 h)
 
 pub flit2-header : (f1 f2 f3 : ℕ) → f2 < 2 ^ 64 → bits 7 0 f2 ≡ 0 → flit2Of (headerOf f1 f2 f3) ≡ f2
+unfolding headerOf flit2Of
 flit2-header f1 f2 f3 h r = go 0 (sym r ∙ cut-low f2 8)
   where
     go : (z : ℕ) → z ≡ f2 % 2 ^ 8 → set 63 16 (bits 63 16 f2) (set 15 12 (bits 15 12 f2) (set 11 11 (bits 11 11 f2) (set 10 8 (bits 10 8 f2) z))) ≡ f2
     go z e = rw (e, put-next f2 8 3, put-next f2 11 1, put-next f2 12 4, put-next f2 16 48) (mod-eq-of-lt h)
 
 pub flit3-header : (f1 f2 f3 : ℕ) → f3 < 2 ^ 64 → bits 29 0 f3 ≡ 0 → flit3Of (headerOf f1 f2 f3) ≡ f3
+unfolding headerOf flit3Of
 flit3-header f1 f2 f3 h r = ap (λ (z : ℕ). setNode (nodeOf f3) z) (sym r ∙ cut-low f3 30) ∙ node-next f3 h
 
 -- reserved bits are clear in what is written
 pub reserved2 : (h : Header) → bits 7 0 (flit2Of h) ≡ 0
+unfolding flit2Of
 reserved2 h = simp cut-put-other
 
 pub reserved3 : (h : Header) → bits 29 0 (flit3Of h) ≡ 0
+unfolding flit3Of
 reserved3 h = simp cut-put-other
 
 pub options-clear : (h : Header) (n : ℕ) → h .state ≡ 0 → h .miss ≡ 0 → h .address54 ≡ 0 → h .last ≡ 0 → optionsOf (flit1Of h n) ≡ 0
-unfolding put
+unfolding put flit1Of
 options-clear h n a b c d = rw (a, b, c, d) (simp cut-put-other)

@@ -32,7 +32,7 @@ optionsOf flit1 = bits 5 0 flit1
 -- the options: state 5..4, L2 miss 3, address_5_4 2..1, last 0.
 -- flit 2: address 63..16, sub-line vector 15..12, icache bit 11, size 10..8, 7..0 reserved.
 -- flit 3: the source, 29..0 reserved
-abbrev pub headerOf : ℕ → ℕ → ℕ → Header
+unfoldable pub headerOf : ℕ → ℕ → ℕ → Header
 headerOf flit1 flit2 flit3 =
     record {
       opcode = opcodeOf flit1;
@@ -50,15 +50,15 @@ headerOf flit1 flit2 flit3 =
     }
 
 -- the header flits of a message of a given length
-abbrev pub flit1Of : Header → ℕ → ℕ
+unfoldable pub flit1Of : Header → ℕ → ℕ
 flit1Of h length =
     setNode (h .to)
     (set 29 22 length
     (set 21 14 (h .opcode)
     (set 13 6 (h .tag) (set 5 4 (h .state) (set 3 3 (h .miss) (set 2 1 (h .address54) (set 0 0 (h .last) 0)))))))
 
-abbrev pub flit2Of : Header → ℕ
+unfoldable pub flit2Of : Header → ℕ
 flit2Of h = set 63 16 (h .address) (set 15 12 (h .vector) (set 11 11 (h .icache) (set 10 8 (h .size) 0)))
 
-abbrev pub flit3Of : Header → ℕ
+unfoldable pub flit3Of : Header → ℕ
 flit3Of h = setNode (h .from) 0

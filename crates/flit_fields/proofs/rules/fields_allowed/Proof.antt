@@ -1,8 +1,10 @@
+use Rattle.flit_fields.specs.Rules.{allowed}
 use borrow.Author.Needs.{needs}
 use Rattle.flit_fields.proofs.rules.fields_allowed.Statement.{statement}
 use Rattle.flit_fields.proofs.rules.fields_allowed.Tie as tie
 
 returns : tie.Need-returns
+unfolding allowed
 returns c = cc
 
 pub fields-allowed-spec : {M : Type 1} → statement M

@@ -1,8 +1,10 @@
+use Rattle.flit_fields.specs.Rules.{portsListed}
 use borrow.Author.Needs.{needs}
 use Rattle.flit_fields.proofs.rules.ports_listed.Statement.{statement}
 use Rattle.flit_fields.proofs.rules.ports_listed.Tie as tie
 
 returns : tie.Need-returns
+unfolding portsListed
 returns c = cc
 
 pub ports-listed-spec : {M : Type 1} → statement M

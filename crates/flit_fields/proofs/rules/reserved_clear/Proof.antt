@@ -1,8 +1,10 @@
+use Rattle.flit_fields.specs.Rules.{reservedClear}
 use borrow.Author.Needs.{needs}
 use Rattle.flit_fields.proofs.rules.reserved_clear.Statement.{statement}
 use Rattle.flit_fields.proofs.rules.reserved_clear.Tie as tie
 
 returns : tie.Need-returns
+unfolding reservedClear
 returns c = cc
 
 pub reserved-clear-spec : {M : Type 1} → statement M

@@ -1,8 +1,10 @@
+use Rattle.flit_fields.specs.Words.{flit1Of}
 use borrow.Author.Needs.{needs}
 use Rattle.flit_fields.proofs.words.flit1.Statement.{statement}
 use Rattle.flit_fields.proofs.words.flit1.Tie as tie
 
 returns : tie.Need-returns
+unfolding flit1Of
 returns c = cc
 
 pub flit1-spec : {M : Type 1} → statement M

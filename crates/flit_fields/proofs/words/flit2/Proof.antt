@@ -1,8 +1,10 @@
+use Rattle.flit_fields.specs.Words.{flit2Of}
 use borrow.Author.Needs.{needs}
 use Rattle.flit_fields.proofs.words.flit2.Statement.{statement}
 use Rattle.flit_fields.proofs.words.flit2.Tie as tie
 
 returns : tie.Need-returns
+unfolding flit2Of
 returns c = cc
 
 pub flit2-spec : {M : Type 1} → statement M
