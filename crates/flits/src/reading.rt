@@ -35,7 +35,7 @@ pub fn unless(holds: bool, n: u64, rest: u64) -> u64
     if holds { rest } else { n }
 }
 
-fn refusal(row: Row, h: Header, count: u64, flit1: u64, flit2: u64, flit3: u64) -> u64
+fn read_refusal(row: Row, h: Header, count: u64, flit1: u64, flit2: u64, flit3: u64) -> u64
     ensures { λ r. ⌜ r ≡ lowest (refusals row h count flit1 flit2 flit3) ⌝ }
 {
     let length = bits::cut(flit1, 22, 8);
@@ -98,7 +98,7 @@ pub fn read(flits: &[u64]) -> Read
     let flit2 = only_if(row.three, flit_at(flits, 1));
     let flit3 = only_if(row.three, flit_at(flits, 2));
     let h = flit_fields::words::header(flit1, flit2, flit3);
-    let n = refusal(row, h, flits.len() as u64, flit1, flit2, flit3);
+    let n = read_refusal(row, h, flits.len() as u64, flit1, flit2, flit3);
     let used = bits::cut(flit1, 22, 8) + 1;
     let start = header_extra(row.three) + 1;
     answer(n, h, used as usize, start as usize)

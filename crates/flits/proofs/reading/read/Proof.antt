@@ -13,7 +13,6 @@ use Rattle.flits.proofs.reading.answer.Reads as answer-reads
 use Rattle.flits.proofs.reading.flit_at.Reads as flit-at-reads
 use Rattle.flits.proofs.reading.header_extra.Reads as header-extra-reads
 use Rattle.flits.proofs.reading.only_if.Reads as only-if-reads
-use Rattle.flits.proofs.reading.refusal.Reads as refusal-reads
 
 -- src/reading.rt:114:9
 flit-at-requires : tie.Need-flit-at-requires
@@ -48,8 +47,8 @@ header-requires : tie.Need-header-requires
 header-requires c κs = search needs
 
 -- src/reading.rt:119:9
-refusal-requires : tie.Need-refusal-requires
-refusal-requires c κs = search needs
+read-refusal-requires : tie.Need-read-refusal-requires
+read-refusal-requires c κs = search needs
 
 -- src/reading.rt:120:16
 cut-requires-2 : tie.Need-cut-requires-2
@@ -80,7 +79,7 @@ returns c =
     rw (c .answer .ensures,
     c .before .header-extra .ensures,
     c .before .before .cut2 .ensures,
-    c .before .before .before .refusal .ensures,
+    c .before .before .before .read-refusal .ensures,
     c .before .before .before .before .header .ensures,
     c .before .before .before .before .before .only-if2 .ensures,
     c .before .before .before .before .before .before .flit-at3 .ensures,
@@ -102,7 +101,7 @@ read-spec =
     flit-at-requires-3
     only-if-requires-2
     header-requires
-    refusal-requires
+    read-refusal-requires
     cut-requires-2
     add-used
     header-extra-requires

@@ -1,8 +1,8 @@
 use borrow.Author.Needs.{needs}
-use Rattle.flits.proofs.reading.refusal.Statement.{statement}
-use Rattle.flits.proofs.reading.refusal.Tie as tie
-use Rattle.flits.proofs.reading.refusal.Reads as reads
-use Rattle.flits.proofs.reading.refusal.Lts as lts
+use Rattle.flits.proofs.reading.read_refusal.Statement.{statement}
+use Rattle.flits.proofs.reading.read_refusal.Tie as tie
+use Rattle.flits.proofs.reading.read_refusal.Reads as reads
+use Rattle.flits.proofs.reading.read_refusal.Lts as lts
 use Rattle.bits.proofs.cut.Reads as cut-reads
 use Rattle.flit_fields.proofs.rules.fields_allowed.Reads as fields-allowed-reads
 use Rattle.flit_fields.proofs.rules.in_table.Reads as in-table-reads
@@ -86,8 +86,8 @@ returns c =
     c .before .before .before .before .before .before .before .before .before .before .before .before .header-extra .ensures,
     c .before .before .before .before .before .before .before .before .before .before .before .before .before .cut .ensures)
 
-pub refusal-spec : {M : Type 1} → statement M
-refusal-spec =
+pub read-refusal-spec : {M : Type 1} → statement M
+read-refusal-spec =
     tie.close
     (tie.spec
     cut-requires
