@@ -63,7 +63,7 @@ unfolding rowOf smalls small
 past t h = no-row t h lines tt
 
 -- what a test says of each line's row, and of the absent one, holds of the row of any type
-every : (Row → Bool) → List Line → Bool
+unfoldable pub every : (Row → Bool) → List Line → Bool
 every p [] = true
 every p (l ∷ ls) = p (l .row) && every p ls
 
@@ -75,6 +75,10 @@ found p t (l ∷ ls) e a = pick (member t (l .types)) (and-left (p (l .row)) (ev
     pick : (b : Bool) → T (p (l .row)) → T (p (find t ls)) → T (p (cond b (l .row) (find t ls)))
     pick true x y = x
     pick false x y = y
+
+pub row-holds : (p : Row → Bool) → T (every p lines) → T (p absent) → (t : ℕ) → T (p (rowOf t))
+unfolding rowOf
+row-holds p e a t = found p t lines e a
 
 -- the lengths of a row are those of its header flits, with eight words of data or none
 lengths : Row → Bool

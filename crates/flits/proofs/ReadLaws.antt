@@ -72,7 +72,8 @@ accepted-keeps s e =
       ports = h 4;
       clear = h 5;
       fields = h 6;
-      sizes = row-lengths _ (lengthOf (flit1 s)) (h 1) (h 2) }
+      sizes = row-lengths _ (lengthOf (flit1 s)) (h 1) (h 2);
+    }
 
 -- the answer by the refusal number
 pub read-accepted : (s : List ℕ) → readRefusal s ≡ 0 → readOf s ≡ accepted (headerAt s) (lengthOf (flit1 s) + 1) (extra (rowAt s) + 1)

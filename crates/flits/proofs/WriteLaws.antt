@@ -133,7 +133,8 @@ module _ (h : Header) (ws b : List ℕ) (at : ℕ) {row : Row} {n : ℕ} (r : ro
   write-done x z y {m} p =
       let fs : List ℕ = headerFlits (row .three) h (x + length ws) ++ ws in
       let long : cond (row .three) 2 0 + 1 + length ws ≡ length fs =
-          sym (length-append (headerFlits (row .three) h (x + length ws)) ws ∙ ap (λ (k : ℕ). k + length ws) (header-length (row .three) h (x + length ws))) in
-      (rw (← number, z, y, r),
-      rw (← number, z)
-      (piece-over b fs at (cond (row .three) 2 0 + 1 + length ws) long p ∙ ap (over b at) (rw (y, r))))
+      sym (length-append (headerFlits (row .three) h (x + length ws)) ws ∙ ap (λ (k : ℕ). k + length ws) (header-length (row .three) h (x + length ws))) in (
+        rw (← number, z, y, r),
+        rw (← number, z)
+            (piece-over b fs at (cond (row .three) 2 0 + 1 + length ws) long p ∙ ap (over b at) (rw (y, r))),
+      )

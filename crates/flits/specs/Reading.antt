@@ -62,8 +62,19 @@ noNode = record { chip = 0; x = 0; y = 0; port = 0 }
 abbrev pub noHeader : Header
 noHeader =
     record {
-      opcode = 0; tag = 0; to = noNode; state = 0; miss = 0; address54 = 0; last = 0;
-      address = 0; vector = 0; icache = 0; size = 0; from = noNode }
+      opcode = 0;
+      tag = 0;
+      to = noNode;
+      state = 0;
+      miss = 0;
+      address54 = 0;
+      last = 0;
+      address = 0;
+      vector = 0;
+      icache = 0;
+      size = 0;
+      from = noNode;
+    }
 
 abbrev pub refused : ℕ → Read
 refused n = record { refusal = n; header = noHeader; used = 0; start = 0 }

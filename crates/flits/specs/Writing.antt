@@ -46,7 +46,8 @@ unfoldable pub writtenOf : Header → ℕ → ℕ → ℕ → Written
 writtenOf h count room at =
     record {
       refusal = writeRefusal h count room at;
-      flits = cond (eqb (writeRefusal h count room at) 0) (extra (rowOf (h .opcode)) + count + 1) 0 }
+      flits = cond (eqb (writeRefusal h count room at) 0) (extra (rowOf (h .opcode)) + count + 1) 0;
+    }
 
 unfoldable pub bufferOf : Header → List ℕ → List ℕ → ℕ → List ℕ
 bufferOf h words b at = cond (eqb (writeRefusal h (length words) (length b) at) 0) (over b at (flitsOf h words)) b

@@ -2,11 +2,10 @@ ghost use mathlib.Core.Path.{_≡_};
 ghost use mathlib.Core.Bool.{cond};
 ghost use lib.ListN.{getD, drop};
 ghost use Rattle.flits.specs.Reading.{lowest, refusals, answer, readOf, dataOf};
-
-use flit_fields::Node;
-use flit_fields::Header;
-use flit_fields::Row;
 use crate::Read;
+use flit_fields::Header;
+use flit_fields::Node;
+use flit_fields::Row;
 
 // The flit at i, 0 past the end.
 fn flit_at(flits: &[u64], i: usize) -> u64
@@ -40,8 +39,16 @@ fn read_refusal(row: Row, h: Header, count: u64, flit1: u64, flit2: u64, flit3: 
 {
     let length = bits::cut(flit1, 22, 8);
     let extra = header_extra(row.three);
-    let from16 = unless(flit_fields::rules::fields_allowed(row, extra < length, h), 16, 0);
-    let from15 = unless(flit_fields::rules::reserved_clear(row, flit1, flit2, flit3), 15, from16);
+    let from16 = unless(
+        flit_fields::rules::fields_allowed(row, extra < length, h),
+        16,
+        0,
+    );
+    let from15 = unless(
+        flit_fields::rules::reserved_clear(row, flit1, flit2, flit3),
+        15,
+        from16,
+    );
     let from14 = unless(flit_fields::rules::ports_listed(row, h), 14, from15);
     let from13 = unless(length < count, 13, from14);
     let from12 = unless(flit_fields::rules::length_allowed(row, length), 12, from13);

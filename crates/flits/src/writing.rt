@@ -6,12 +6,11 @@ ghost use lib.Dec.{leb};
 ghost use lib.ListN.{length, drop};
 ghost use Rattle.flits.specs.Reading.{lowest};
 ghost use Rattle.flits.specs.Writing.{refusals, headerFlits, writtenOf, bufferOf};
-
-use flit_fields::Header;
-use flit_fields::Row;
 use crate::Written;
 use crate::reading::header_extra;
 use crate::reading::unless;
+use flit_fields::Header;
+use flit_fields::Row;
 
 // n flits fit from `at` on into a buffer of `room`.
 fn fits_at(room: usize, at: usize, n: usize) -> bool
@@ -27,7 +26,11 @@ fn write_refusal(row: Row, h: Header, count: usize, room: usize, at: usize) -> u
     let length = header_extra(row.three) + count as u64;
     let n = length + 1;
     let from17 = unless(fits_at(room, at, n as usize), 17, 0);
-    let from16 = unless(flit_fields::rules::fields_allowed(row, 0 < count, h), 16, from17);
+    let from16 = unless(
+        flit_fields::rules::fields_allowed(row, 0 < count, h),
+        16,
+        from17,
+    );
     let from14 = unless(flit_fields::rules::ports_listed(row, h), 14, from16);
     let from12 = unless(flit_fields::rules::length_allowed(row, length), 12, from14);
     unless(flit_fields::rules::in_table(row), 11, from12)

@@ -1,14 +1,10 @@
 use borrow.Author.Tests.{eq-eqb, ne-eqb}
 use Rattle.flits.proofs.reading.answer.Statement.{statement}
 use Rattle.flits.proofs.reading.answer.Tie as tie
-use Rattle.flits.proofs.reading.answer.Reads as reads
-use Rattle.flits.proofs.reading.answer.Lts as lts
 
--- src/reading.rt:70:1
 returns : tie.Need-returns
 returns c = rw (eq-eqb _ _ (c .if1 .taken))
 
--- src/reading.rt:70:1
 returns-2 : tie.Need-returns-2
 returns-2 c = rw (ne-eqb _ _ (c .if1 .left))
 

@@ -5,33 +5,21 @@ use Rattle.flits.proofs.ReadLaws.{start-le-used, used-le}
 use borrow.Author.Needs.{needs}
 use Rattle.flits.proofs.reading.data_words.Statement.{statement}
 use Rattle.flits.proofs.reading.data_words.Tie as tie
-use Rattle.flits.proofs.reading.data_words.Reads as reads
-use Rattle.flits.proofs.reading.data_words.Lts as lts
-use Rattle.flits.proofs.reading.read.Reads as read-reads
 
--- src/reading.rt:129:9
-read-requires : tie.Need-read-requires
-read-requires c κs = search needs
-
--- src/reading.rt:132:5
 mul-result : tie.Need-mul-result
 mul-result c =
     let s = c .before .before .args .flits .now in
     rw (c .read .ensures) (omega (arith, start-le-used s, used-le s))
 
--- src/reading.rt:132:5
 sub-result : tie.Need-sub-result
 sub-result c = rw (c .read .ensures) (start-le-used (c .before .before .args .flits .now))
 
--- src/reading.rt:132:5
 part-result-start : tie.Need-part-result-start
 part-result-start c = rw (c .read .ensures) (start-le-used (c .before .before .args .flits .now))
 
--- src/reading.rt:132:5
 part-result-end : tie.Need-part-result-end
 part-result-end c = rw (c .read .ensures) (used-le (c .before .before .args .flits .now))
 
--- src/reading.rt:126:1
 returns : tie.Need-returns
 unfolding dataOf
 returns c = rw (c .before .read .ensures)
@@ -39,4 +27,4 @@ returns c = rw (c .before .read .ensures)
 pub data-words-spec : {M : Type 1} → statement M
 data-words-spec =
     tie.close
-    (tie.spec read-requires mul-result sub-result part-result-start part-result-end returns)
+    (tie.spec (λ c κs. search needs) mul-result sub-result part-result-start part-result-end returns)

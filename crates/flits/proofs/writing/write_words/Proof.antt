@@ -7,8 +7,6 @@ use lib.ListN.{length, take, drop, set, getD}
 use Rattle.flits.proofs.WriteLaws.{copy-more, copy-length, copy-all}
 use Rattle.flits.proofs.writing.write_words.Statement.{statement}
 use Rattle.flits.proofs.writing.write_words.Tie as tie
-use Rattle.flits.proofs.writing.write_words.Reads as reads
-use Rattle.flits.proofs.writing.write_words.Lts as lts
 
 abbrev Inv-loop : tie.InvT-loop
 Inv-loop part₀ words i₀ part i = (i ≤ length words) × (part ≡ take i words ++ drop i part₀)
@@ -16,54 +14,27 @@ Inv-loop part₀ words i₀ part i = (i ≤ length words) × (part ≡ take i wo
 abbrev μ-loop : tie.MeasureT-loop
 μ-loop part₀ words i₀ part i = length words - i
 
--- src/writing.rt:56:5
-loop-holds : tie.Need-loop-holds Inv-loop μ-loop
-loop-holds c = search needs
-
--- src/writing.rt:57:19
-mul-part : tie.Need-mul-part Inv-loop μ-loop
-mul-part c = search needs
-
--- src/writing.rt:57:19
-shared-slice-read-part : tie.Need-shared-slice-read-part Inv-loop μ-loop
-shared-slice-read-part c = search needs
-
--- src/writing.rt:57:9
-mul-part-2 : tie.Need-mul-part-2 Inv-loop μ-loop
-mul-part-2 c = search needs
-
--- src/writing.rt:57:9
 slice-write-part : tie.Need-slice-write-part Inv-loop μ-loop
 slice-write-part c =
     let s = c .before .before .before in
     let l = c .before .before .loop in
     rw (l .inv .1) (rw (copy-length (s .args .part .now) (s .args .words .now) (l .i) (omega arith) (omega arith)) (omega arith))
 
--- src/writing.rt:58:9
-add-i : tie.Need-add-i Inv-loop μ-loop
-add-i c = search needs
-
--- src/writing.rt:56:5
-loop-less : tie.Need-loop-less Inv-loop μ-loop
-loop-less c = search needs
-
--- src/writing.rt:56:5
 loop-again : tie.Need-loop-again Inv-loop μ-loop
 loop-again c =
     let s = c .before .before .before in
-    let l = c .before .before .loop in
-    (omega arith,
-    ap (λ (r : List ℕ). set r (l .i) (getD (s .args .words .now) (l .i) 0)) (l .inv .1)
-    ∙ copy-more (s .args .part .now) (s .args .words .now) (l .i) (omega arith) (omega arith))
+    let l = c .before .before .loop in (
+      omega arith,
+      ap (λ (r : List ℕ). set r (l .i) (getD (s .args .words .now) (l .i) 0)) (l .inv .1)
+          ∙ copy-more (s .args .part .now) (s .args .words .now) (l .i) (omega arith) (omega arith),
+    )
 
--- src/writing.rt:51:1
 same-length : tie.Need-same-length Inv-loop μ-loop
 same-length c =
     let s = c .before .before in
     let l = c .before .loop in
     ap length (l .inv .1) ∙ copy-length (s .args .part .now) (s .args .words .now) (l .i) (omega arith) (omega arith)
 
--- src/writing.rt:51:1
 returns : tie.Need-returns Inv-loop μ-loop
 returns c =
     let s = c .before .before in
@@ -77,13 +48,13 @@ write-words-spec =
     (tie.spec
     Inv-loop
     μ-loop
-    loop-holds
-    mul-part
-    shared-slice-read-part
-    mul-part-2
+    (λ c. search needs)
+    (λ c. search needs)
+    (λ c. search needs)
+    (λ c. search needs)
     slice-write-part
-    add-i
-    loop-less
+    (λ c. search needs)
+    (λ c. search needs)
     loop-again
     same-length
     returns)
