@@ -1,6 +1,7 @@
 // Messages in flits: the front message of lent flits is read, a message is written at a place of a lent buffer, a recording is walked.
 // What each call promises is an equation with a definition of specs/, for every input; no call requires anything.
 pub mod reading;
+pub mod rounds;
 pub mod writing;
 
 use flit_fields::Header;

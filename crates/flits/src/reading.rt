@@ -56,7 +56,7 @@ fn read_refusal(row: Row, h: Header, count: u64, flit1: u64, flit2: u64, flit3: 
     unless(0 < count, 10, from11)
 }
 
-fn answer(n: u64, h: Header, used: usize, start: usize) -> Read
+pub fn answer(n: u64, h: Header, used: usize, start: usize) -> Read
     ensures { λ r. ⌜ r ≡ answer n h used start ⌝ }
 {
     if n == 0 {
