@@ -142,3 +142,7 @@ read-none = refl
 pub data-none : dataOf [] ≡ []
 unfolding dataOf readOf readRefusal
 data-none = refl
+
+-- an accepted message uses a flit at least
+pub used-pos : (s : List ℕ) → readRefusal s ≡ 0 → 0 < readOf s .used
+used-pos s e = subst (λ (r : Read). 0 < r .used) (sym (read-accepted s e)) (omega arith)

@@ -3,11 +3,19 @@
 ghost use mathlib.Core.Path.{_≡_};
 ghost use lib.ListN.{drop};
 ghost use Rattle.flits.specs.Reading.{readOf};
+ghost use Rattle.walker.specs.Walk.{walkOf};
 use flits::Read;
 
 pub struct Walker<'a> {
     pub flits: &'a [u64],
     pub at: usize,
+}
+
+// How far a recording was walked: the messages passed, the place behind them, and the refusal of what stands there (10 at the end).
+pub struct Walked {
+    pub messages: usize,
+    pub at: usize,
+    pub refusal: u64,
 }
 
 // At the front of a recording.
@@ -36,4 +44,25 @@ pub fn step(flits: &[u64], at: usize) -> Read
     ensures { λ r. ⌜ r ≡ readOf (drop at (now (flits .entry))) ⌝ }
 {
     next(moved(start(flits), at))
+}
+
+// Walks a recording to its end, or to the first message that is refused.
+pub fn walk(flits: &[u64]) -> Walked
+    ensures { λ r. ⌜ r ≡ walkOf (now (flits .entry)) ⌝ }
+{
+    let mut messages: usize = 0;
+    let mut at: usize = 0;
+    loop {
+        let front = step(flits, at);
+        let refusal = front.refusal;
+        if refusal != 0 {
+            return Walked {
+                messages: messages,
+                at: at,
+                refusal: refusal,
+            };
+        }
+        messages += 1;
+        at += front.used;
+    }
 }
