@@ -1,11 +1,9 @@
 -- The header flits of a message and its fields are each other's inverse, by the two laws of `bits` over place and width. Assumes nothing.
-use mathlib.Core.Path.{_≡_, refl, sym, ap, _∙_, subst}
-use mathlib.Core.Bool.{Bool, true, false}
-use Prim.Native.Nat.{ℕ, _+_, _%_, _^_, _<_, _≤_}
+use mathlib.Core.Path.{_≡_, sym, ap, _∙_}
+use Prim.Native.Nat.{ℕ, _%_, _^_, _<_}
 use native.Mathlib.Nat.{mod-eq-of-lt, mod-one, div-one}
-use native.Mathlib.Omega.{arith}
 use Rattle.bits.specs.Field.{cut, put}
-use Rattle.bits.proofs.FieldLaws.{cut-put-fits, cut-put-other, put-next, apart}
+use Rattle.bits.proofs.FieldLaws.{cut-put-fits, cut-put-other, put-next}
 use Rattle.flit_fields.specs.declared.Node.{Node}
 use Rattle.flit_fields.specs.declared.Header.{Header}
 use Rattle.flit_fields.specs.Words.{bits, set, nodeOf, setNode, lengthOf, opcodeOf, optionsOf, headerOf, flit1Of, flit2Of, flit3Of}

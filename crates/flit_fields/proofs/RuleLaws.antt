@@ -1,29 +1,22 @@
 -- What follows for a header whose tests hold: its fields have their widths, and what its type does not have is 0. Assumes nothing.
 use mathlib.Core.Path.{_≡_, refl, sym, ap, _∙_, subst}
-use mathlib.Core.Logic.{_⊎_, inl, inr, ⊎-elim}
-use mathlib.Core.Bool.{Bool, true, false, cond, not, _&&_, _||_}
+use mathlib.Core.Logic.{⊎-elim}
+use mathlib.Core.Bool.{Bool, true, false, not, _&&_, _||_}
 use mathlib.Core.List.{List, [], _∷_}
-use Prim.Native.Nat.{ℕ, zero, suc, _+_, _≤_, _<_, _^_}
+use Prim.Native.Nat.{ℕ, zero, suc, _<_, _^_}
 use native.Mathlib.Omega.{arith}
-use lib.Dec.{T, eqb, ltb, leb, lit<}
+use lib.Dec.{T, eqb, leb}
 use lib.ListN.{getD}
 use borrow.Author.Tests.{eqb-true, ltb-true, leb-true, leb-false, eq-eqb}
-use Rattle.bits.specs.Field.{cut, put}
+use Rattle.bits.specs.Field.{put}
 use Rattle.flit_fields.specs.declared.Header.{Header}
 use Rattle.flit_fields.specs.declared.Row.{Row}
 use Rattle.flit_fields.specs.Words.{bits, optionsOf, flit1Of, flit2Of, flit3Of}
-use Rattle.flit_fields.specs.Table.{Line, lines, find, rowOf, absent}
+use Rattle.flit_fields.specs.Table.{rowOf}
 use Rattle.flit_fields.specs.Rules.{all, allFrom, known, listed, portsListed, reservedClear, fits, narrow, absentClear, suits, allowed}
+use Rattle.flit_fields.proofs.Tests.{is-true, and-true, or-true}
 use Rattle.flit_fields.proofs.TableLaws.{past, row-holds, every}
-use Rattle.flit_fields.proofs.HeaderLaws.{NodeFits, HeaderFits, reserved2, reserved3, options-clear}
-
-pub and-true : (a b : Bool) → (a && b) ≡ true → (a ≡ true) × (b ≡ true)
-and-true true b e = (refl, e)
-and-true false b e = absurd (subst T (sym e) tt)
-
-or-true : (a b : Bool) → (a || b) ≡ true → (a ≡ true) ⊎ (b ≡ true)
-or-true true b e = inl refl
-or-true false b e = inr e
+use Rattle.flit_fields.proofs.HeaderLaws.{HeaderFits, reserved2, reserved3, options-clear}
 
 -- every test of a list holds where `all` does
 from-at : (b : Bool) (ts : List Bool) → allFrom b ts ≡ true → (b ≡ true) × ((k : ℕ) → getD ts k true ≡ true)
@@ -130,10 +123,6 @@ header-fits h w k p a =
     }
 
 -- ---- fields that a type does not have
-
-is-true : (b : Bool) → T b → b ≡ true
-is-true true x = refl
-is-true false x = absurd x
 
 -- one header flit: no size, vector, icache bit. Reserved options: no state, miss, address_5_4, last. Tests over all rows
 abbrev oneFlit : Row → List Bool

@@ -1,15 +1,16 @@
 -- The const table by type number is 01's lines: one equation that antt computes over all 32 entries. And what holds of every row. Assumes nothing.
-use mathlib.Core.Path.{_≡_, refl, sym, ap, _∙_, subst}
+use mathlib.Core.Path.{_≡_, refl, sym, ap, _∙_}
 use mathlib.Core.Bool.{Bool, true, false, cond, _||_, _&&_, not}
 use mathlib.Core.List.{List, [], _∷_}
 use Prim.Native.Nat.{ℕ, zero, suc, _+_, _≤_, _<_}
 use native.Mathlib.Nat.{add-zero, add-suc, suc-add, zero-add, le-of-suc-le-suc, not-suc-le-zero}
 use native.Mathlib.Omega.{arith}
 use lib.Dec.{T, ltb, eqb, ltb→lt}
-use lib.ListN.{length, getD}
+use lib.ListN.{getD}
 use borrow.Author.Tests.{ne-eqb, eqb-true}
 use mathlib.Core.Logic.{_⊎_, inl, inr, ⊎-elim}
 use Rattle.flit_fields.specs.declared.Row.{Row}
+use Rattle.flit_fields.proofs.Tests.{is-true, and-left, and-right, or-true}
 use Rattle.flit_fields.specs.Table.{Line, lines, member, find, rowOf, absent, extra}
 use Rattle.flit_fields.specs.Rules.{known, lengthAllowed}
 
@@ -35,14 +36,6 @@ small (k ∷ ks) = ltb k 32 && small ks
 smalls : List Line → Bool
 smalls [] = true
 smalls (l ∷ ls) = small (l .types) && smalls ls
-
-and-left : (a b : Bool) → T (a && b) → T a
-and-left true b t = tt
-and-left false b t = t
-
-and-right : (a b : Bool) → T (a && b) → T b
-and-right true b t = t
-and-right false b t = absurd t
 
 no-member : (t : ℕ) → 32 ≤ t → (ks : List ℕ) → T (small ks) → member t ks ≡ false
 unfolding small
@@ -84,16 +77,9 @@ row-holds p e a t = found p t lines e a
 lengths : Row → Bool
 lengths row = not (known row) || (eqb (row .short) (extra row) || eqb (row .short) (extra row + 8)) && (eqb (row .long) (extra row) || eqb (row .long) (extra row + 8))
 
-is-true : (b : Bool) → T b → b ≡ true
-is-true true h = refl
-is-true false h = absurd h
-
 either : (a b e : ℕ) → (eqb a b || eqb a e) ≡ true → (a ≡ b) ⊎ (a ≡ e)
-either a b e h = pick (eqb a b) refl h
-  where
-    pick : (t : Bool) → eqb a b ≡ t → (t || eqb a e) ≡ true → (a ≡ b) ⊎ (a ≡ e)
-    pick true p q = inl (eqb-true a b p)
-    pick false p q = inr (eqb-true a e q)
+either a b e h =
+    ⊎-elim (λ (p : eqb a b ≡ true). inl (eqb-true a b p)) (λ (p : eqb a e ≡ true). inr (eqb-true a e p)) (or-true (eqb a b) (eqb a e) h)
 
 fits-row : (r : Row) (n : ℕ) → T (eqb n (extra r) || eqb n (extra r + 8)) → (n ≡ extra r) ⊎ (n ≡ extra r + 8)
 fits-row r n p = either n (extra r) (extra r + 8) (is-true (eqb n (extra r) || eqb n (extra r + 8)) p)

@@ -75,6 +75,37 @@ bare network length =
 abbrev pub absent : Row
 absent = bare 0 0
 
+-- the states, ours
+abbrev pub I : ℕ
+I = 0
+
+abbrev pub S : ℕ
+S = 1
+
+abbrev pub E : ℕ
+E = 2
+
+abbrev pub M : ℕ
+M = 3
+
+-- ---- the kinds of lines
+
+-- any address, any size: the largest icache bit
+abbrev pub request : ℕ → Row
+request icache = three 1 2 0 7 0 icache false
+
+-- line address: network, length, size, vector
+abbrev pub ofLine : ℕ → ℕ → ℕ → ℕ → Row
+ofLine network length size vector = three network length size size vector 0 true
+
+-- 21 to 23, on which last is 1 and miss and address_5_4 are 0: the two lengths, least state without data and with data, largest state
+abbrev pub ack : ℕ → ℕ → ℕ → ℕ → ℕ → Row
+ack short long low full high = one 3 short long low full high 1 0 0
+
+-- 28 and 29, on which last is 0: length, least state
+abbrev pub reply : ℕ → ℕ → Row
+reply length low = one 2 length length low low M 0 1 3
+
 pub record Line : Type 0 where
   pub types : List ℕ
   pub row : Row
@@ -82,34 +113,34 @@ pub record Line : Type 0 where
 abbrev pub _are_ : List ℕ → Row → Line
 _are_ types row = record { types = types; row = row }
 
--- the states are I = 0, S = 1, E = 2, M = 3
 abbrev pub lines : List Line
 lines =
-    -- LOAD_REQ and STORE_REQ: any address, any size; the icache bit may be 1 on type 31
-    _are_ (31 ∷ []) (three 1 2 0 7 0 1 false)
-    ∷ _are_ (2 ∷ []) (three 1 2 0 7 0 0 false)
-    -- WB_REQ; STORE_MEM: size 7, line address, data
-    ∷ _are_ (12 ∷ []) (three 3 10 7 7 0 0 true)
-    ∷ _are_ (20 ∷ []) (three 2 10 7 7 0 0 true)
-    -- LOAD_MEM: size 7, line address
-    ∷ _are_ (19 ∷ []) (three 2 2 7 7 0 0 true)
-    -- WBGUARD_REQ: size 0, line address
-    ∷ _are_ (13 ∷ []) (three 1 2 0 0 0 0 true)
-    -- LOAD_FWD, STORE_FWD, INV_FWD: size 0, vector 15, line address
-    ∷ _are_ (16 ∷ 17 ∷ 18 ∷ []) (three 2 2 0 0 15 0 true)
-    -- LOAD_FWDACK: state S; I with length 0 only
-    ∷ _are_ (21 ∷ []) (one 3 0 8 0 1 1 1 0 0)
-    -- STORE_FWDACK: state I
-    ∷ _are_ (22 ∷ []) (one 3 0 8 0 0 0 1 0 0)
-    -- INV_FWDACK: state I
-    ∷ _are_ (23 ∷ []) (one 3 0 0 0 0 0 1 0 0)
-    -- LOAD_MEM_ACK, STORE_MEM_ACK: options reserved
+    -- LOAD_REQ and STORE_REQ: length 2, any address, any size; icache bit may be 1 on type 31
+    _are_ (31 ∷ []) (request 1)
+    ∷ _are_ (2 ∷ []) (request 0)
+    -- WB_REQ, STORE_MEM: length 10, size 7, line address, data
+    ∷ _are_ (12 ∷ []) (ofLine 3 10 7 0)
+    ∷ _are_ (20 ∷ []) (ofLine 2 10 7 0)
+    -- LOAD_MEM: length 2, size 7, line address
+    ∷ _are_ (19 ∷ []) (ofLine 2 2 7 0)
+    -- WBGUARD_REQ: length 2, size 0, line address
+    ∷ _are_ (13 ∷ []) (ofLine 1 2 0 0)
+    -- LOAD_FWD, STORE_FWD, INV_FWD: length 2, size 0, vector 15, line address
+    ∷ _are_ (16 ∷ 17 ∷ 18 ∷ []) (ofLine 2 2 0 15)
+    -- LOAD_FWDACK: length 0 or 8, state S; I with length 0 only
+    ∷ _are_ (21 ∷ []) (ack 0 8 I S S)
+    -- STORE_FWDACK: length 0 or 8, state I
+    ∷ _are_ (22 ∷ []) (ack 0 8 I I I)
+    -- INV_FWDACK: length 0, state I
+    ∷ _are_ (23 ∷ []) (ack 0 0 I I I)
+    -- LOAD_MEM_ACK: length 8, options reserved
     ∷ _are_ (24 ∷ []) (bare 3 8)
+    -- STORE_MEM_ACK: length 0, options reserved
     ∷ _are_ (25 ∷ []) (bare 3 0)
-    -- NODATA_ACK: any state
-    ∷ _are_ (28 ∷ []) (one 2 0 0 0 0 3 0 1 3)
-    -- DATA_ACK: state S, E or M
-    ∷ _are_ (29 ∷ []) (one 2 8 8 1 1 3 0 1 3)
+    -- NODATA_ACK: length 0, any state
+    ∷ _are_ (28 ∷ []) (reply 0 I)
+    -- DATA_ACK: length 8, state S, E or M
+    ∷ _are_ (29 ∷ []) (reply 8 S)
     ∷ []
 
 abbrev pub member : ℕ → List ℕ → Bool

@@ -4,7 +4,7 @@ use crate::Header;
 use crate::Node;
 
 // The place in the upper bits of a flit.
-pub fn node(w: u64) -> Node
+fn node(w: u64) -> Node
     ensures { λ r. ⌜ r ≡ nodeOf w ⌝ }
 {
     Node {
@@ -16,7 +16,7 @@ pub fn node(w: u64) -> Node
 }
 
 // A flit with a place set into its upper bits.
-pub fn set_node(n: Node, w: u64) -> u64
+fn set_node(n: Node, w: u64) -> u64
     ensures { λ r. ⌜ r ≡ setNode n w ⌝ }
 {
     let a = bits::put(w, 30, 4, n.port);

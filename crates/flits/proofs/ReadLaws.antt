@@ -1,5 +1,5 @@
 -- What an accepted front message keeps, and that a refused one gives nothing. Assumes nothing.
-use mathlib.Core.Path.{_≡_, refl, sym, ap, _∙_, subst}
+use mathlib.Core.Path.{_≡_, refl, sym, ap, subst}
 use mathlib.Core.Logic.{_⊎_, ⊎-elim}
 use mathlib.Core.Bool.{Bool, true, false, cond, _&&_}
 use mathlib.Core.List.{List, [], _∷_}
@@ -11,11 +11,12 @@ use lib.ListN.{length, take, drop, length-take, length-drop}
 use lib.Seq.{take-all}
 use borrow.Author.Tests.{ltb-true, eqb-true, eqb-false, ne-eqb, eq-eqb}
 use Rattle.flit_fields.specs.Words.{lengthOf}
-use Rattle.flit_fields.specs.Table.{extra, rowOf}
+use Rattle.flit_fields.specs.Table.{extra}
 use Rattle.flit_fields.specs.Rules.{known, lengthAllowed, portsListed, reservedClear, allowed}
+use Rattle.flit_fields.proofs.Tests.{and-left, and-right}
 use Rattle.flit_fields.proofs.TableLaws.{row-lengths}
 use Rattle.flits.specs.declared.Read.{Read}
-use Rattle.flits.specs.Reading.{lowest, refusals, flit1, rowAt, flit2, flit3, headerAt, readRefusal, accepted, refused, answer, readOf, dataOf}
+use Rattle.flits.specs.Reading.{lowest, refusals, flit1, rowAt, flit2, flit3, headerAt, readRefusal, accepted, refused, readOf, dataOf}
 
 -- ---- the lowest number is 0 exactly where every test holds
 
@@ -28,14 +29,6 @@ test (t ∷ ts) (suc k) = test ts k
 abbrev pub numbered : List (ℕ × Bool) → Bool
 numbered [] = true
 numbered (t ∷ ts) = ltb 0 (t .0) && numbered ts
-
-and-left : (a b : Bool) → T (a && b) → T a
-and-left true b t = tt
-and-left false b t = t
-
-and-right : (a b : Bool) → T (a && b) → T b
-and-right true b t = t
-and-right false b t = absurd t
 
 step : (n : ℕ) (b : Bool) (m : ℕ) → T (ltb 0 n) → cond b m n ≡ 0 → (b ≡ true) × (m ≡ 0)
 step n true m p e = (refl, e)

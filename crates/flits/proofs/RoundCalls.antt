@@ -1,19 +1,19 @@
 -- The round trips carried to what the calls answer and leave. Assumes nothing.
-use mathlib.Core.Path.{_≡_, refl, sym, ap, ap₂, _∙_, subst}
-use mathlib.Core.Bool.{Bool, true, false, cond}
-use mathlib.Core.List.{List, [], _∷_, _++_}
+use mathlib.Core.Path.{_≡_, refl, sym, ap, _∙_}
+use mathlib.Core.Bool.{false, cond}
+use mathlib.Core.List.{List, _++_}
 use Prim.Native.Nat.{ℕ, _+_, _≤_, _<_, _^_}
 use native.Mathlib.Omega.{arith}
 use lib.Dec.{eqb, leb}
 use lib.ListN.{length, getD, take, drop}
 use lib.Seq.{drop-at, length-take-le}
-use borrow.Author.Tests.{eq-eqb, ne-eqb, eqb-true, leb-true}
+use borrow.Author.Tests.{eq-eqb, ne-eqb, leb-true}
 use Rattle.flit_fields.specs.declared.Header.{Header}
-use Rattle.flit_fields.specs.Words.{lengthOf, headerOf}
+use Rattle.flit_fields.specs.Words.{headerOf}
 use Rattle.flit_fields.specs.Table.{rowOf, extra}
 use Rattle.flits.specs.declared.Read.{Read}
 use Rattle.flits.specs.declared.Written.{Written}
-use Rattle.flits.specs.Reading.{flit1, rowAt, headerAt, readRefusal, accepted, refused, answer, readOf, dataOf}
+use Rattle.flits.specs.Reading.{rowAt, headerAt, readRefusal, answer, readOf, dataOf}
 use Rattle.flits.specs.Writing.{refusals, writeRefusal, flitsOf, over, writtenOf, bufferOf}
 use Rattle.flits.specs.Rounds.{copyRefusal, copiedOf, copyBuffer, echoOf}
 use Rattle.flits.proofs.ReadLaws.{holds, read-accepted, read-cases, data-length}

@@ -4,22 +4,21 @@
 --     write-read     a message written reads back as itself, whatever stands behind it
 --     write-data     with its data
 -- That a refusal gives nothing is `read-refused` and `data-refused` of ReadLaws.
-use mathlib.Core.Path.{_≡_, refl, sym, ap, ap₂, _∙_, subst}
+use mathlib.Core.Path.{_≡_, refl, sym, ap, ap₂, _∙_}
 use mathlib.Core.Logic.{_⊎_, ⊎-elim}
 use mathlib.Core.Bool.{Bool, true, false, cond}
 use mathlib.Core.List.{List, [], _∷_, _++_, append-assoc}
-use Prim.Native.Nat.{ℕ, zero, suc, _+_, _-_, _≤_, _<_, _^_}
+use Prim.Native.Nat.{ℕ, suc, _+_, _-_, _<_, _^_}
 use native.Mathlib.Nat.{not-suc-le-zero, le-of-suc-le-suc}
 use native.Mathlib.Omega.{arith}
-use lib.Dec.{T, eqb, ltb, leb}
-use lib.ListN.{length, getD, take, drop, length-append, length-take, length-drop}
+use lib.Dec.{ltb, leb, lit<}
+use lib.ListN.{length, getD, take, drop, length-append, List·getD-append}
 use lib.Seq.{take-add, take-at, drop-at}
-use borrow.Author.Tests.{lt-ltb, le-ltb, leb-true, leb-false, le-leb, lt-leb, eq-eqb, eqb-true, ltb-true, ltb-false}
+use borrow.Author.Tests.{lt-ltb, le-ltb, ltb-true, ltb-false}
 use Rattle.flit_fields.specs.declared.Header.{Header}
 use Rattle.flit_fields.specs.declared.Row.{Row}
-use Rattle.flit_fields.specs.Words.{bits, lengthOf, opcodeOf, headerOf, flit1Of, flit2Of, flit3Of}
+use Rattle.flit_fields.specs.Words.{lengthOf, opcodeOf, headerOf, flit1Of, flit2Of, flit3Of}
 use Rattle.flit_fields.specs.Table.{rowOf, extra}
-use Rattle.flit_fields.specs.Rules.{all, known, lengthAllowed, portsListed, reservedClear, allowed}
 use Rattle.flit_fields.proofs.TableLaws.{row-lengths}
 use Rattle.flit_fields.proofs.HeaderLaws.{HeaderFits, header-flits, length-flits, opcode-flits, flit1-header, flit2-header, flit3-header}
 use Rattle.flit_fields.proofs.RuleLaws.{reserved-zero, header-fits, flit2-none, flit3-none, written-clear}
@@ -45,7 +44,7 @@ take-three (a ∷ b ∷ c ∷ s) h = refl
 -- a word, or 0 in its place
 cond-lt : (b : Bool) (w : ℕ) → w < 2 ^ 64 → cond b w 0 < 2 ^ 64
 cond-lt true w h = h
-cond-lt false w h = lib.Dec.lit< tt
+cond-lt false w h = lit< tt
 
 module _ (s : List ℕ) (e : readRefusal s ≡ 0) (word : (k : ℕ) → getD s k 0 < 2 ^ 64) where
   keeps : Accepted s
@@ -114,14 +113,12 @@ rewrite s e room at =
 
 -- ---- written, then read
 
--- flits 2 and 3 of what was written, which a type with one header flit has not
-second : (b : Bool) (f1 f2 f3 : ℕ) (ws rest : List ℕ) → (b ≡ false → f2 ≡ 0) → cond b (getD ((f1 ∷ cond b (f2 ∷ f3 ∷ []) [] ++ ws) ++ rest) 1 0) 0 ≡ f2
-second true f1 f2 f3 ws rest z = refl
-second false f1 f2 f3 ws rest z = sym (z refl)
-
-third : (b : Bool) (f1 f2 f3 : ℕ) (ws rest : List ℕ) → (b ≡ false → f3 ≡ 0) → cond b (getD ((f1 ∷ cond b (f2 ∷ f3 ∷ []) [] ++ ws) ++ rest) 2 0) 0 ≡ f3
-third true f1 f2 f3 ws rest z = refl
-third false f1 f2 f3 ws rest z = sym (z refl)
+-- a header flit behind the first of what was written, which a type with one header flit has not
+behind-first : (b : Bool) (f : ℕ) (hs ws rest : List ℕ) (k : ℕ) → k < length hs → (b ≡ false → getD hs k 0 ≡ 0)
+    → cond b (getD ((f ∷ cond b hs [] ++ ws) ++ rest) (suc k) 0) 0 ≡ getD hs k 0
+behind-first true f hs ws rest k l z =
+    List·getD-append (hs ++ ws) rest 0 k (rw (length-append hs ws) (omega arith)) ∙ List·getD-append hs ws 0 k l
+behind-first false f hs ws rest k l z = sym (z refl)
 
 module _ (h : Header) (ws rest : List ℕ) (room at : ℕ) (e : writeRefusal h (length ws) room at ≡ 0) where
   row : Row
@@ -160,13 +157,13 @@ module _ (h : Header) (ws rest : List ℕ) (room at : ℕ) (e : writeRefusal h (
   unfolding written flitsOf row
   front2 =
       ap (λ (r : Row). cond (r .three) (getD written 1 0) 0) front-row
-      ∙ second (row .three) (flit1Of h n) (flit2Of h) (flit3Of h) ws rest (flit2-none h (ltb 0 (length ws)) (tests 3))
+      ∙ behind-first (row .three) (flit1Of h n) (flit2Of h ∷ flit3Of h ∷ []) ws rest 0 (lit< tt) (flit2-none h (ltb 0 (length ws)) (tests 3))
 
   front3 : flit3 written ≡ flit3Of h
   unfolding written flitsOf row
   front3 =
       ap (λ (r : Row). cond (r .three) (getD written 2 0) 0) front-row
-      ∙ third (row .three) (flit1Of h n) (flit2Of h) (flit3Of h) ws rest (flit3-none h (ltb 0 (length ws)) (tests 3))
+      ∙ behind-first (row .three) (flit1Of h n) (flit2Of h ∷ flit3Of h ∷ []) ws rest 1 (lit< tt) (flit3-none h (ltb 0 (length ws)) (tests 3))
 
   front-header : headerAt written ≡ h
   front-header = (λ i. headerOf (front1 i) (front2 i) (front3 i)) ∙ header-flits h n fit

@@ -2,18 +2,17 @@
 use mathlib.Core.Path.{_≡_, refl, sym, ap, ap₂, _∙_, subst}
 use mathlib.Core.Bool.{Bool, true, false, cond}
 use mathlib.Core.List.{List, [], _∷_, _++_, append-assoc, append-nil}
-use Prim.Native.Nat.{ℕ, zero, suc, _+_, _-_, _≤_, _<_}
+use Prim.Native.Nat.{ℕ, suc, _+_, _-_, _≤_, _<_}
 use native.Mathlib.Nat.{le-refl, le-of-eq, le-of-lt, not-suc-le-zero, le-of-suc-le-suc}
 use native.Mathlib.Numerals.{add-one}
 use native.Mathlib.Omega.{arith}
 use lib.Dec.{leb}
 use lib.ListN.{length, getD, set, take, drop, length-append, length-take, length-drop, drop-of-length-le}
-use lib.Seq.{drop-cons, set-at, take-suc, append-snoc, length-take-le, take-all, drop-at, take-at, drop-drop, take-take}
+use lib.Seq.{drop-cons, set-at, take-suc, append-snoc, length-take-le, take-all, drop-at, take-at, drop-drop}
 use borrow.Author.Tests.{le-leb, lt-leb, leb-true, leb-false, ne-eqb}
 use borrow.Rule.Slice.PartMut.{putMid}
 use Rattle.flits.specs.Writing.{over, headerFlits, refusals, writeRefusal, flitsOf, writtenOf, bufferOf}
 use Rattle.flits.specs.Reading.{lowest}
-use Rattle.flits.specs.declared.Written.{Written}
 use Rattle.flits.proofs.ReadLaws.{holds, rest-part}
 use Rattle.flit_fields.specs.declared.Row.{Row}
 use Rattle.flit_fields.specs.Table.{rowOf, extra}

@@ -1,5 +1,5 @@
 -- Writing a message at a place of a lent buffer (01, 'Flit words', 'Refusal numbers').
-use mathlib.Core.Bool.{Bool, true, false, cond}
+use mathlib.Core.Bool.{Bool, cond}
 use mathlib.Core.List.{List, [], _∷_, _++_}
 use Prim.Native.Nat.{ℕ, _+_}
 use lib.Dec.{eqb, ltb, leb}

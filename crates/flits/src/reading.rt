@@ -21,14 +21,14 @@ fn only_if(b: bool, w: u64) -> u64
 }
 
 // The header flits after the first.
-pub fn header_extra(three: bool) -> u64
+pub(crate) fn header_extra(three: bool) -> u64
     ensures { λ r. ⌜ r ≡ cond three 2 0 ⌝ }
 {
     if three { 2 } else { 0 }
 }
 
 // `rest`, the lowest of the higher refusals, where the test holds, else the number n.
-pub fn unless(holds: bool, n: u64, rest: u64) -> u64
+pub(crate) fn unless(holds: bool, n: u64, rest: u64) -> u64
     ensures { λ r. ⌜ r ≡ cond holds rest n ⌝ }
 {
     if holds { rest } else { n }
@@ -56,7 +56,7 @@ fn read_refusal(row: Row, h: Header, count: u64, flit1: u64, flit2: u64, flit3: 
     unless(0 < count, 10, from11)
 }
 
-pub fn answer(n: u64, h: Header, used: usize, start: usize) -> Read
+pub(crate) fn answer(n: u64, h: Header, used: usize, start: usize) -> Read
     ensures { λ r. ⌜ r ≡ answer n h used start ⌝ }
 {
     if n == 0 {

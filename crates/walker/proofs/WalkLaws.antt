@@ -1,19 +1,16 @@
 -- The walk of a recording, turn by turn. Assumes nothing.
-use mathlib.Core.Path.{_≡_, refl, sym, ap, _∙_, subst}
-use mathlib.Core.Bool.{Bool, true, false, cond}
+use mathlib.Core.Path.{_≡_, sym, ap, _∙_, subst}
 use mathlib.Core.List.{List}
 use Prim.Native.Nat.{ℕ, zero, suc, _+_, _-_, _≤_, _<_}
 use native.Mathlib.Numerals.{add-one}
 use native.Mathlib.Omega.{arith}
-use lib.Dec.{eqb}
 use lib.ListN.{length, drop, length-drop}
 use borrow.Author.Tests.{eq-eqb, ne-eqb}
 use Rattle.flits.specs.declared.Read.{Read}
 use Rattle.flits.specs.Reading.{readOf, readRefusal}
 use Rattle.flits.proofs.ReadLaws.{used-le, used-pos}
 use Rattle.flits.proofs.RoundCalls.{refusal-of}
-use Rattle.walker.specs.declared.Walked.{Walked}
-use Rattle.walker.specs.Walk.{stopped, walkFrom, walkOf}
+use Rattle.walker.specs.Walk.{walkFrom, walkOf}
 
 -- an accepted message uses a flit at least, and lies inside
 pub inside : (s : List ℕ) (at : ℕ) {r : Read} → r ≡ readOf (drop at s) → r .refusal ≡ 0 → (0 < r .used) × (at + r .used ≤ length s)

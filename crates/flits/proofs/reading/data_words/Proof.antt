@@ -1,6 +1,5 @@
 use native.Mathlib.Omega.{arith}
-use mathlib.Core.Path.{_≡_, refl, sym, ap, _∙_, subst}
-use Rattle.flits.specs.Reading.{readOf, dataOf}
+use Rattle.flits.specs.Reading.{dataOf}
 use Rattle.flits.proofs.ReadLaws.{start-le-used, used-le}
 use borrow.Author.Needs.{needs}
 use Rattle.flits.proofs.reading.data_words.Statement.{statement}
