@@ -5,7 +5,12 @@ use Rattle.flit_fields.proofs.rules.fields_allowed.Tie as tie
 
 returns : tie.Need-returns
 unfolding allowed
-returns c = cc
+returns c =
+    rw (
+      c .fields-suit .ensures,
+      c .before .absent-clear .ensures,
+      c .before .before .fields-narrow .ensures,
+    )
 
 pub fields-allowed-spec : {M : Type 1} → statement M
 fields-allowed-spec =
