@@ -6,11 +6,11 @@
 --     put-next       the bits below a field and the field are the bits below its end
 --     put-or         how `put` is computed by shift, mask and or
 use mathlib.Core.Path.{_≡_, refl, sym, ap, ap₂, _∙_, subst}
-use mathlib.Core.Bool.{Bool, true, false, _||_, cond}
-use Prim.Native.Nat.{ℕ, zero, suc, _+_, _-_, _*_, _/_, _%_, _^_, _≤_, _<_}
-use native.Mathlib.Nat.{add-comm, add-assoc, mul-assoc, mul-comm, add-mul, mod-lt, mod-eq-of-lt, mod-mod, div-eq-of-lt, zero-mul, zero-add, sub-add-cancel, lt-of-lt-of-le, lt-of-le-of-lt, mod-le}
+use mathlib.Core.Bool.{Bool, true, false, _||_}
+use Prim.Native.Nat.{ℕ, _+_, _-_, _*_, _/_, _%_, _^_, _≤_, _<_}
+use native.Mathlib.Nat.{add-comm, add-assoc, mul-assoc, add-mul, mod-lt, mod-eq-of-lt, mod-mod, div-eq-of-lt, zero-mul, zero-add, sub-add-cancel, lt-of-lt-of-le, lt-of-le-of-lt}
 use native.Mathlib.Omega.{arith}
-use lib.Dec.{T, leb, leb→le}
+use lib.Dec.{leb}
 use lib.Arith.{digits-lt}
 use lib.Bits.{bitOr, or-shifted}
 use lib.Pow.{pow-pos, pow-mono, pow-add, split, high, low, field, mod-mod-pow, mod-pow-add, shr-shr, shr-lt, shl-exact}

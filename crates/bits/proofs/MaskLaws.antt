@@ -2,12 +2,12 @@
 -- at the tile's place. Assumes nothing.
 use mathlib.Core.Path.{_≡_, refl, sym, ap, ap₂, _∙_, subst}
 use mathlib.Core.Bool.{Bool, true, false, cond, _||_}
-use Prim.Native.Nat.{ℕ, zero, suc, _+_, _-_, _*_, _/_, _%_, _^_, _≤_, _<_}
-use native.Mathlib.Nat.{div-eq-of-lt, zero-div, zero-mod, le-refl, lt-of-lt-of-le, lt-of-le-of-lt, mod-lt, one-mul, zero-mul, sub-zero, mod-one, mod-eq-of-lt}
+use Prim.Native.Nat.{ℕ, zero, suc, _+_, _-_, _*_, _%_, _^_, _≤_, _<_}
+use native.Mathlib.Nat.{div-eq-of-lt, le-refl, lt-of-lt-of-le, lt-of-le-of-lt, one-mul, zero-mul, sub-zero, mod-one, mod-eq-of-lt}
 use native.Mathlib.Numerals.{one-add}
 use native.Mathlib.Omega.{arith}
 use lib.Dec.{T, leb, eqb, lit<}
-use lib.Pow.{pow-pos, pow-mono, high-ones, mod-pow-add}
+use lib.Pow.{pow-mono, high-ones, mod-pow-add}
 use lib.Bits.{bitAnd, bitOr, and-high, or-add-and}
 use borrow.Author.Tests.{eqb-true, eqb-false, leb-true, leb-false, le-leb, lt-ltb, le-ltb}
 use Rattle.bits.specs.Field.{cut, put}

@@ -1,6 +1,6 @@
 -- Shifts and masks of 64 bits as powers of two, at the shifts that a word has and past its end. Assumes nothing.
-use mathlib.Core.Path.{_≡_, refl, sym, ap, _∙_, subst}
-use Prim.Native.Nat.{ℕ, zero, suc, _+_, _-_, _*_, _/_, _%_, _^_, _≤_, _<_}
+use mathlib.Core.Path.{_≡_, sym, ap, _∙_, subst}
+use Prim.Native.Nat.{ℕ, _-_, _*_, _/_, _%_, _^_, _≤_, _<_}
 use native.Mathlib.Nat.{lt-of-lt-of-le, div-eq-of-lt, mod-eq-of-lt, one-mul, mul-assoc, mul-mod-left, sub-add-cancel}
 use native.Mathlib.Omega.{arith}
 use lib.Dec.{lit<}

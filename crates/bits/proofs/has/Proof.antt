@@ -5,7 +5,8 @@ use Rattle.bits.proofs.has.Tie as tie
 
 returns : tie.Need-returns
 unfolding has
-returns c = cc
+returns c =
+    rw (c .cut .ensures)
 
 pub has-spec : {M : Type 1} → statement M
 has-spec = tie.close (tie.spec (λ c κs. search needs) returns)

@@ -1,0 +1,4 @@
+pub mod Tests
+pub mod TableLaws
+pub mod HeaderLaws
+pub mod RuleLaws

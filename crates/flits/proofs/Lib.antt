@@ -1,0 +1,5 @@
+pub mod ReadLaws
+pub mod WriteLaws
+pub mod RoundTrip
+pub mod RoundCalls
+pub mod Examples

@@ -1,0 +1,31 @@
+-- The round trips as calls: a message read and written again, and a message written and read back.
+use mathlib.Core.Bool.{cond}
+use mathlib.Core.List.{List}
+use Prim.Native.Nat.{ℕ, _+_}
+use lib.Dec.{eqb, leb}
+use lib.ListN.{length, take}
+use Rattle.flit_fields.specs.declared.Header.{Header}
+use Rattle.flit_fields.specs.Table.{rowOf, extra}
+use Rattle.flits.specs.declared.Read.{Read}
+use Rattle.flits.specs.declared.Written.{Written}
+use Rattle.flits.specs.Reading.{readOf, readRefusal, accepted, refused}
+use Rattle.flits.specs.Writing.{writeRefusal, over}
+
+-- the refusal of copying the front message of s to a place: that of the read, or 17 where its flits do not fit
+unfoldable pub copyRefusal : List ℕ → ℕ → ℕ → ℕ
+copyRefusal s room at = cond (eqb (readRefusal s) 0) (cond (leb (at + readOf s .used) room) 0 17) (readRefusal s)
+
+unfoldable pub copiedOf : List ℕ → ℕ → ℕ → Written
+copiedOf s room at =
+    record { refusal = copyRefusal s room at; flits = cond (eqb (copyRefusal s room at) 0) (readOf s .used) 0 }
+
+-- the buffer then holds the very flits that were read
+unfoldable pub copyBuffer : List ℕ → List ℕ → ℕ → List ℕ
+copyBuffer s b at = cond (eqb (copyRefusal s (length b) at) 0) (over b at (take (readOf s .used) s)) b
+
+-- a message written reads back as itself
+unfoldable pub echoOf : Header → ℕ → ℕ → ℕ → Read
+echoOf h count room at =
+    cond (eqb (writeRefusal h count room at) 0)
+    (accepted h (extra (rowOf (h .opcode)) + count + 1) (extra (rowOf (h .opcode)) + 1))
+    (refused (writeRefusal h count room at))
