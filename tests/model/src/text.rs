@@ -27,7 +27,7 @@ fn number(token: &str) -> Result<u64, String> {
         None => (token, 10),
     };
     if digits.is_empty() || !digits.chars().all(|c| c.is_digit(radix)) {
-        return Err(format!("`{token}` is no number (decimal, or hexadecimal after 0x)"));
+        return Err(format!("`{token}` is not a number (decimal, or hexadecimal after 0x)"));
     }
     u64::from_str_radix(digits, radix).map_err(|_| format!("{token} is above 64 bits"))
 }
@@ -42,7 +42,7 @@ fn byte(what: &str, token: &str) -> Result<u64, String> {
 
 /// Tests that the field has the arguments that its name asks for.
 fn arguments<'a, const N: usize>(tokens: &[&'a str], form: &str) -> Result<[&'a str; N], String> {
-    tokens[1..].try_into().map_err(|_| format!("wants the form `{form}`, with {} after the name, not {}", N, tokens.len() - 1))
+    tokens[1..].try_into().map_err(|_| format!("the form is `{form}`"))
 }
 
 fn header_field(place: usize, tokens: &[&str]) -> Result<Vec<u8>, String> {
@@ -62,7 +62,7 @@ fn header_field(place: usize, tokens: &[&str]) -> Result<Vec<u8>, String> {
                 return Err(format!("line address {address} is above 48 bits"));
             }
             if !job::is_line_address(n) {
-                return Err(format!("line address {address} is no multiple of 64"));
+                return Err(format!("line address {address} is not a multiple of 64"));
             }
             Ok(job::line_field(n))
         }
@@ -118,7 +118,7 @@ fn call(tokens: &[&str]) -> Result<Call, String> {
             let [] = arguments(tokens, "home-eviction")?;
             Ok(Call::HomeEviction)
         }
-        name => Err(format!("`{name}` is no field")),
+        name => Err(format!("`{name}` is not a field")),
     }
 }
 
@@ -133,7 +133,7 @@ fn is_call(name: &str) -> bool {
 fn field(place: usize, tokens: &[&str]) -> Result<Vec<u8>, String> {
     let name = tokens[0];
     if !is_call(name) && !HEADER.contains(&name) {
-        return Err(format!("`{name}` is no field"));
+        return Err(format!("`{name}` is not a field"));
     }
     if place < HEADER.len() {
         if name != HEADER[place] {
@@ -143,7 +143,7 @@ fn field(place: usize, tokens: &[&str]) -> Result<Vec<u8>, String> {
     } else if is_call(name) {
         Ok(job::call_field(call(tokens)?))
     } else {
-        Err(format!("`{name}` stands a second time"))
+        Err(format!("`{name}` appears a second time"))
     }
 }
 
