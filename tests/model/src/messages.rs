@@ -53,7 +53,10 @@ pub fn fields(sent: &Sent, line: u64) -> Fields {
         LOAD_FWDACK | STORE_FWDACK | INV_FWDACK => f.last = 1,
         _ => {}
     }
-    if matches!(m.kind, LOAD_REQ | STORE_REQ | WBGUARD_REQ | WB_REQ | LOAD_MEM | STORE_MEM | LOAD_FWD | STORE_FWD | INV_FWD) {
+    if matches!(
+        m.kind,
+        LOAD_REQ | STORE_REQ | WBGUARD_REQ | WB_REQ | LOAD_MEM | STORE_MEM | LOAD_FWD | STORE_FWD | INV_FWD
+    ) {
         (f.source_chip, f.source_x, f.source_y, f.source_port) = from;
     }
     f

@@ -6,13 +6,26 @@ use crate::refusal;
 
 #[derive(Clone, Copy, PartialEq, Eq, Hash, Debug)]
 pub enum Call {
-    Load { tile: u64, word: u64 },
-    Store { tile: u64, word: u64, value: u64 },
-    Evict { tile: u64 },
+    Load {
+        tile: u64,
+        word: u64,
+    },
+    Store {
+        tile: u64,
+        word: u64,
+        value: u64,
+    },
+    Evict {
+        tile: u64,
+    },
     /// 01's taking.
     Arbitrate,
-    ToTile { tile: u64 },
-    FromTile { tile: u64 },
+    ToTile {
+        tile: u64,
+    },
+    FromTile {
+        tile: u64,
+    },
     MemoryStep,
     MemoryAck,
     HomeEviction,

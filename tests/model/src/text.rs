@@ -125,7 +125,15 @@ fn call(tokens: &[&str]) -> Result<Call, String> {
 fn is_call(name: &str) -> bool {
     matches!(
         name,
-        "load" | "store" | "evict" | "taking" | "to-tile" | "from-tile" | "memory-step" | "memory-ack" | "home-eviction"
+        "load"
+            | "store"
+            | "evict"
+            | "taking"
+            | "to-tile"
+            | "from-tile"
+            | "memory-step"
+            | "memory-ack"
+            | "home-eviction"
     )
 }
 
@@ -137,7 +145,10 @@ fn field(place: usize, tokens: &[&str]) -> Result<Vec<u8>, String> {
     }
     if place < HEADER.len() {
         if name != HEADER[place] {
-            return Err(format!("`{name}` where `{}` must stand (first tiles, line, memory, in this order)", HEADER[place]));
+            return Err(format!(
+                "`{name}` where `{}` must stand (first tiles, line, memory, in this order)",
+                HEADER[place]
+            ));
         }
         header_field(place, tokens)
     } else if is_call(name) {

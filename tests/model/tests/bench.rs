@@ -372,7 +372,16 @@ fn deliveries_to_a_tile() {
                 assert_eq!(refusal(&b, Call::ToTile { tile: 0 }), 7);
                 b.tiles[1].noc3 = queue(&[plain(INV_FWDACK), plain(INV_FWDACK)]);
                 let acked = m.kind != DATA_ACK;
-                assert_eq!(refusal(&b, call), if !fits { 8 } else if acked { 9 } else { 0 });
+                assert_eq!(
+                    refusal(&b, call),
+                    if !fits {
+                        8
+                    } else if acked {
+                        9
+                    } else {
+                        0
+                    }
+                );
             }
         }
     }
@@ -460,7 +469,10 @@ fn deliveries_from_a_tile() {
                         let expected = Home { last_taken: 1, marks: h.marks, ..Home::default() };
                         if dirty {
                             let wait = (FOR_MEMORY_STORE, FOR_EVICTION);
-                            assert_eq!(a, Home { valid: 1, dirty: 1, words, phase: wait.0, reason: wait.1, ..expected });
+                            assert_eq!(
+                                a,
+                                Home { valid: 1, dirty: 1, words, phase: wait.0, reason: wait.1, ..expected }
+                            );
                             assert_eq!((sent[0].way, sent[0].message.data), (Way::ToMemory, words));
                         } else {
                             assert_eq!(a, expected);

@@ -260,7 +260,7 @@ fn all_benches_of_three_tiles_with_values() {
     assert!(longest <= bound(3));
 }
 
-/// A tile whose way holds a message, where one is met in a few tries.
+/// A tile whose way holds a message, if there is one.
 fn busy(r: &mut Random, b: &Bench, way: fn(usize) -> Way) -> u64 {
     let start = r.below(b.tile_count) as usize;
     let mut circle = (start..b.tiles.len()).chain(0..start);

@@ -114,7 +114,11 @@ fn too_long() {
 fn random_job(r: &mut Random) -> Job {
     let number = |r: &mut Random| {
         let n = r.next();
-        if n % 2 == 0 { n >> 48 } else { n }
+        if n % 2 == 0 {
+            n >> 48
+        } else {
+            n
+        }
     };
     let mut calls = vec![];
     for _ in 0..r.below(40) {

@@ -24,8 +24,16 @@ fn by_hand() {
     // Tile 53 is x 5, y 6; its tag is 53.
     let tile = 5 << 42 | 6 << 34;
     let tag = 53 << 6;
-    flits_are(Way::Noc1(53), Message { word: 7, ..plain(STORE_REQ) }, &[2 << 22 | 2 << 14 | tag, 0x8000_1078_0400, tile]);
-    flits_are(Way::Noc1(53), Message { word: 1, ..plain(LOAD_REQ) }, &[2 << 22 | 31 << 14 | tag, 0x8000_1048_0400, tile]);
+    flits_are(
+        Way::Noc1(53),
+        Message { word: 7, ..plain(STORE_REQ) },
+        &[2 << 22 | 2 << 14 | tag, 0x8000_1078_0400, tile],
+    );
+    flits_are(
+        Way::Noc1(53),
+        Message { word: 1, ..plain(LOAD_REQ) },
+        &[2 << 22 | 31 << 14 | tag, 0x8000_1048_0400, tile],
+    );
     flits_are(Way::Noc1(53), plain(WBGUARD_REQ), &[2 << 22 | 13 << 14 | tag, 0x8000_1040_0000, tile]);
     for forward in [LOAD_FWD, STORE_FWD, INV_FWD] {
         flits_are(Way::Noc2(53), plain(forward), &[tile | 2 << 22 | forward << 14 | tag, 0x8000_1040_F000, 0]);

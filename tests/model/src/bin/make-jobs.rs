@@ -93,7 +93,13 @@ fn refused() -> Vec<(&'static str, Vec<u8>)> {
 /// Exactly 65,536 bytes: 64 tiles, one of them in M after five calls, then stores that it makes alone.
 fn longest() -> Vec<u8> {
     let tile = 40;
-    let mut calls = vec![Call::Store { tile, word: 0, value: 1 }, Call::Arbitrate, Call::MemoryStep, Call::MemoryAck, Call::ToTile { tile }];
+    let mut calls = vec![
+        Call::Store { tile, word: 0, value: 1 },
+        Call::Arbitrate,
+        Call::MemoryStep,
+        Call::MemoryAck,
+        Call::ToTile { tile },
+    ];
     let mut left = job::MAX_BYTES - made(64, calls.clone()).len();
     let mut push = |call| {
         left -= job::call_field(call).len();
