@@ -1,0 +1,25 @@
+use Rattle.words.specs.Blocks.{tileAt}
+use borrow.Author.Needs.{needs}
+use Rattle.words.proofs.read_tile.Statement.{statement}
+use Rattle.words.proofs.read_tile.Tie as tie
+use Rattle.words.proofs.read_tile.Reads as reads
+use Rattle.words.proofs.read_tile.Lts as lts
+use Rattle.words.proofs.read_pair.Reads as read-pair-reads
+use Rattle.words.proofs.read_row.Reads as read-row-reads
+
+returns : tie.Need-returns
+unfolding tileAt
+returns c = cc
+
+pub read-tile-spec : {M : Type 1} → statement M
+read-tile-spec =
+    tie.close
+    (tie.spec
+    (λ c κs. search needs)
+    (λ c. search needs)
+    (λ c κs. search needs)
+    (λ c. search needs)
+    (λ c κs. search needs)
+    (λ c. search needs)
+    (λ c κs. search needs)
+    returns)
