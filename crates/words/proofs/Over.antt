@@ -11,7 +11,7 @@ use Rattle.words.specs.declared.Row.{Row}
 use Rattle.words.specs.declared.Pair.{Pair}
 use Rattle.words.specs.declared.TileBlock.{TileBlock}
 use Rattle.words.specs.declared.HomeBlock.{HomeBlock}
-use Rattle.words.specs.Blocks.{over, rowAt, pairAt, tileAt, homeAt, rowWords, pairWords, tileWords, homeWords}
+use Rattle.words.specs.Blocks.{over, rowAt, pairAt, tileAt, homeAt, rowWords, pairWords, tileWords, homeWords, PairFull, TileFull, HomeFull}
 
 -- the same length
 pub length-over : (l : List ℕ) (i : ℕ) (vs : List ℕ) → i + length vs ≤ length l → length (over l i vs) ≡ length l
@@ -112,11 +112,6 @@ write-row l l1 l2 l3 i r h n e1 e2 e3 =
     then-over l l2 l3 i (i + 8) _ _ (omega arith) refl (then-over l l1 l2 i (i + 4) _ _ (omega arith) refl e1 e2) e3
     ∙ ap (λ (x : List ℕ). over l i (r .n0 ∷ r .n1 ∷ r .n2 ∷ r .n3 ∷ x)) (sym (eight (r .words) n))
 
--- the rows of a block hold eight words each
-pub record PairFull (p : Pair) : Type 0 where
-  pub first : length (p .a .words) ≡ 8
-  pub second : length (p .b .words) ≡ 8
-
 pub length-pair : (p : Pair) → PairFull p → length (pairWords p) ≡ 24
 unfolding pairWords
 length-pair p f = length-append (rowWords (p .a)) (rowWords (p .b)) ∙ rw (length-row (p .a) (f .first), length-row (p .b) (f .second))
@@ -124,12 +119,6 @@ length-pair p f = length-append (rowWords (p .a)) (rowWords (p .b)) ∙ rw (leng
 pub write-pair : (l l1 l2 : List ℕ) (i : ℕ) (p : Pair) → i + 24 ≤ length l → PairFull p → l1 ≡ over l i (rowWords (p .a)) → l2 ≡ over l1 (i + 12) (rowWords (p .b)) → l2 ≡ over l i (pairWords p)
 unfolding pairWords
 write-pair l l1 l2 i p h f e1 e2 = then-over l l1 l2 i (i + 12) _ _ (omega arith) (rw (length-row (p .a) (f .first))) e1 e2
-
-pub record TileFull (x : TileBlock) : Type 0 where
-  pub head-full : length (x .head .words) ≡ 8
-  pub noc1-full : PairFull (x .noc1)
-  pub noc2-full : PairFull (x .noc2)
-  pub noc3-full : PairFull (x .noc3)
 
 pub length-tile : (x : TileBlock) → TileFull x → length (tileWords x) ≡ 84
 unfolding tileWords
@@ -146,12 +135,6 @@ write-tile l l1 l2 l3 l4 i x h f e1 e2 e3 e4 =
     then-over l l3 l4 i (i + 60) _ _ (omega arith) (simp length-append (omega arith))
     (then-over l l2 l3 i (i + 36) _ _ (omega arith) (simp length-append (omega arith)) (then-over l l1 l2 i (i + 12) _ _ (omega arith) (omega arith) e1 e2) e3) e4
     ∙ ap (over l i) (simp append-assoc)
-
-pub record HomeFull (x : HomeBlock) : Type 0 where
-  pub line-full : length (x .line .words) ≡ 8
-  pub control-full : length (x .control .words) ≡ 8
-  pub out-full : PairFull (x .out)
-  pub back-full : PairFull (x .back)
 
 pub length-home : (x : HomeBlock) → HomeFull x → length (homeWords x) ≡ 74
 unfolding homeWords

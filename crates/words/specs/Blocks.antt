@@ -1,5 +1,6 @@
 -- Where the parts of a bench stand in its words: rows of four numbers and eight words, pairs of rows, and the blocks of a tile
 -- and of the home made of them, with no word between them.
+use mathlib.Core.Path.{_≡_}
 use Prim.Native.Nat.{ℕ, _+_}
 use mathlib.Core.List.{List, [], _∷_, _++_}
 use lib.ListN.{length, getD, take, drop}
@@ -38,3 +39,20 @@ homeWords x = x .tiles ∷ x .phase ∷ rowWords (x .line) ++ (rowWords (x .cont
 -- a list with the words vs written over it from place i
 unfoldable pub over : List ℕ → ℕ → List ℕ → List ℕ
 over l i vs = take i l ++ (vs ++ drop (i + length vs) l)
+
+-- the rows of a block hold eight words each
+pub record PairFull (p : Pair) : Type 0 where
+  pub first : length (p .a .words) ≡ 8
+  pub second : length (p .b .words) ≡ 8
+
+pub record TileFull (x : TileBlock) : Type 0 where
+  pub head-full : length (x .head .words) ≡ 8
+  pub noc1-full : PairFull (x .noc1)
+  pub noc2-full : PairFull (x .noc2)
+  pub noc3-full : PairFull (x .noc3)
+
+pub record HomeFull (x : HomeBlock) : Type 0 where
+  pub line-full : length (x .line .words) ≡ 8
+  pub control-full : length (x .control .words) ≡ 8
+  pub out-full : PairFull (x .out)
+  pub back-full : PairFull (x .back)

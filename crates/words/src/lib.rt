@@ -4,7 +4,7 @@ ghost use mathlib.Core.Path.{_≡_};
 ghost use Prim.Native.Nat.{_+_, _≤_};
 ghost use lib.ListN.{length};
 ghost use mathlib.Core.List.{_∷_, []};
-ghost use Rattle.words.specs.Blocks.{rowAt, pairAt, tileAt, homeAt, over, rowWords, pairWords, tileWords, homeWords};
+ghost use Rattle.words.specs.Blocks.{rowAt, pairAt, tileAt, homeAt, over, rowWords, pairWords, tileWords, homeWords, PairFull, TileFull, HomeFull};
 
 pub struct Row {
     pub n0: u64,
@@ -116,6 +116,7 @@ fn write_four(w: &mut [u64], at: usize, a: u64, b: u64, c: u64, d: u64)
 pub fn write_row(w: &mut [u64], at: usize, r: Row)
     requires { ⌜ at + 12 ≤ length (now w) ⌝ }
     ensures { λ _. ⌜ now (w .exit) ≡ over (now (w .entry)) at (rowWords r) ⌝ }
+    ensures full { λ _. ⌜ length (r .words) ≡ 8 ⌝ }
 {
     let d = r.words;
     write_four(w, at, r.n0, r.n1, r.n2, r.n3);
@@ -126,6 +127,7 @@ pub fn write_row(w: &mut [u64], at: usize, r: Row)
 pub fn write_pair(w: &mut [u64], at: usize, p: Pair)
     requires { ⌜ at + 24 ≤ length (now w) ⌝ }
     ensures { λ _. ⌜ now (w .exit) ≡ over (now (w .entry)) at (pairWords p) ⌝ }
+    ensures full { λ _. ⌜ PairFull p ⌝ }
 {
     write_row(w, at, p.a);
     write_row(w, at + 12, p.b);
@@ -134,6 +136,7 @@ pub fn write_pair(w: &mut [u64], at: usize, p: Pair)
 pub fn write_tile(w: &mut [u64], at: usize, x: TileBlock)
     requires { ⌜ at + 84 ≤ length (now w) ⌝ }
     ensures { λ _. ⌜ now (w .exit) ≡ over (now (w .entry)) at (tileWords x) ⌝ }
+    ensures full { λ _. ⌜ TileFull x ⌝ }
 {
     write_row(w, at, x.head);
     write_pair(w, at + 12, x.noc1);
@@ -144,6 +147,7 @@ pub fn write_tile(w: &mut [u64], at: usize, x: TileBlock)
 pub fn write_home(w: &mut [u64], x: HomeBlock)
     requires { ⌜ 74 ≤ length (now w) ⌝ }
     ensures { λ _. ⌜ now (w .exit) ≡ over (now (w .entry)) 0 (homeWords x) ⌝ }
+    ensures full { λ _. ⌜ HomeFull x ⌝ }
 {
     write_two(w, 0, x.tiles, x.phase);
     write_row(w, 2, x.line);

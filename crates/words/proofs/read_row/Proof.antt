@@ -1,11 +1,7 @@
 use Rattle.words.proofs.Over.{read-row}
-use Rattle.words.specs.Blocks.{rowAt}
-use Rattle.words.proofs.Over.{eight-at}
 use borrow.Author.Needs.{needs}
 use Rattle.words.proofs.read_row.Statement.{statement}
 use Rattle.words.proofs.read_row.Tie as tie
-use Rattle.words.proofs.read_row.Reads as reads
-use Rattle.words.proofs.read_row.Lts as lts
 
 returns : tie.Need-returns
 returns c = read-row (c .before .before .before .before .before .before .before .before .before .before .before .before .args .w .now) (c .before .before .before .before .before .before .before .before .before .before .before .before .args .at) (c .before .before .before .before .before .before .before .before .before .before .before .before .pre)

@@ -2,10 +2,6 @@ use Rattle.words.specs.Blocks.{tileAt}
 use borrow.Author.Needs.{needs}
 use Rattle.words.proofs.read_tile.Statement.{statement}
 use Rattle.words.proofs.read_tile.Tie as tie
-use Rattle.words.proofs.read_tile.Reads as reads
-use Rattle.words.proofs.read_tile.Lts as lts
-use Rattle.words.proofs.read_pair.Reads as read-pair-reads
-use Rattle.words.proofs.read_row.Reads as read-row-reads
 
 returns : tie.Need-returns
 unfolding tileAt

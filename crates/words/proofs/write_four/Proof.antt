@@ -4,8 +4,6 @@ use native.Mathlib.Omega.{arith}
 use borrow.Author.Needs.{needs}
 use Rattle.words.proofs.write_four.Statement.{statement}
 use Rattle.words.proofs.write_four.Tie as tie
-use Rattle.words.proofs.write_four.Reads as reads
-use Rattle.words.proofs.write_four.Lts as lts
 
 slice-write-w-2 : tie.Need-slice-write-w-2
 slice-write-w-2 c = simp length-set (omega arith)

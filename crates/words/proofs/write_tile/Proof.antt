@@ -1,14 +1,11 @@
 use Rattle.words.proofs.Over.{write-tile}
+use Rattle.words.specs.Blocks.{TileFull}
 use borrow.Author.Needs.{needs}
 use Rattle.words.proofs.write_tile.Statement.{statement}
 use Rattle.words.proofs.write_tile.Tie as tie
-use Rattle.words.proofs.write_tile.Reads as reads
-use Rattle.words.proofs.write_tile.Lts as lts
-use Rattle.words.proofs.write_pair.Reads as write-pair-reads
-use Rattle.words.proofs.write_row.Reads as write-row-reads
 
 returns : tie.Need-returns
-returns c = write-tile _ _ _ _ _ (c .before .before .before .before .before .before .before .before .before .before .before .before .before .before .before .before .before .args .at) (c .before .before .before .before .before .before .before .before .before .before .before .before .before .before .before .before .before .args .x) (c .before .before .before .before .before .before .before .before .before .before .before .before .before .before .before .before .before .pre) (record { head-full = search needs; noc1-full = record { first = search needs; second = search needs }; noc2-full = record { first = search needs; second = search needs }; noc3-full = record { first = search needs; second = search needs } }) (c .before .before .before .before .before .before .before .before .before .before .before .before .before .before .write-row .ensures) (c .before .before .before .before .before .before .before .before .before .before .write-pair .ensures) (c .before .before .before .before .before .before .write-pair2 .ensures) (c .before .before .write-pair3 .ensures)
+returns c = let f : TileFull (c .before .before .before .before .before .before .before .before .before .before .before .before .before .before .before .before .before .args .x) = record { head-full = c .before .before .before .before .before .before .before .before .before .before .before .before .before .before .write-row .ensures .1; noc1-full = c .before .before .before .before .before .before .before .before .before .before .write-pair .ensures .1; noc2-full = c .before .before .before .before .before .before .write-pair2 .ensures .1; noc3-full = c .before .before .write-pair3 .ensures .1 } in (write-tile _ _ _ _ _ (c .before .before .before .before .before .before .before .before .before .before .before .before .before .before .before .before .before .args .at) (c .before .before .before .before .before .before .before .before .before .before .before .before .before .before .before .before .before .args .x) (c .before .before .before .before .before .before .before .before .before .before .before .before .before .before .before .before .before .pre) f (c .before .before .before .before .before .before .before .before .before .before .before .before .before .before .write-row .ensures .0) (c .before .before .before .before .before .before .before .before .before .before .write-pair .ensures .0) (c .before .before .before .before .before .before .write-pair2 .ensures .0) (c .before .before .write-pair3 .ensures .0), f)
 
 pub write-tile-spec : {M : Type 1} → statement M
 write-tile-spec =

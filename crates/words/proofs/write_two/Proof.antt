@@ -4,8 +4,6 @@ use native.Mathlib.Omega.{arith}
 use borrow.Author.Needs.{needs}
 use Rattle.words.proofs.write_two.Statement.{statement}
 use Rattle.words.proofs.write_two.Tie as tie
-use Rattle.words.proofs.write_two.Reads as reads
-use Rattle.words.proofs.write_two.Lts as lts
 
 slice-write-w-2 : tie.Need-slice-write-w-2
 slice-write-w-2 c = simp length-set (omega arith)
@@ -15,4 +13,4 @@ returns c = two-stores _ _ _ _ (c .pre)
 
 pub write-two-spec : {M : Type 1} → statement M
 write-two-spec =
-    tie.close (tie.spec mul-w slice-write-w add-w mul-w-2 slice-write-w-2 same-length returns)
+    tie.close (tie.spec (λ c. search needs) (λ c. search needs) (λ c. search needs) (λ c. search needs) slice-write-w-2 (λ c. search needs) returns)
