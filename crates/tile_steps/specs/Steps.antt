@@ -12,10 +12,11 @@ use Rattle.codec.specs.Encode.{zeros, row, noRow}
 use Rattle.tile_steps.specs.declared.TileStep.{TileStep}
 
 abbrev pub refuse : ℕ → TileBlock → TileStep
-refuse n x = record { refusal = n; kind = 0; value = 0; tile = x }
+refuse n x = record { refusal = n; kind = 0; value = 0; sent = 0; tile = x }
 
-abbrev pub done : ℕ → ℕ → TileBlock → TileStep
-done k v x = record { refusal = 0; kind = k; value = v; tile = x }
+-- s: on which queues it sent (crate codec, specs/Sent.antt)
+abbrev pub done : ℕ → ℕ → ℕ → TileBlock → TileStep
+done k v s x = record { refusal = 0; kind = k; value = v; sent = s; tile = x }
 
 -- a queue has room while its second place is free
 unfoldable pub room : Pair → Bool
@@ -34,19 +35,19 @@ headed h p q r = record { head = h; noc1 = p; noc2 = q; noc3 = r }
 -- a request of type k for word w, waiting as number u says, with the value v to store
 unfoldable pub asks : ℕ → ℕ → ℕ → ℕ → TileBlock → TileStep
 asks k u w v x =
-    cond (room (x .noc1)) (done 3 0 (headed (row (x .head .n0) u w v (x .head .words)) (push (x .noc1) (row k w 0 0 zeros)) (x .noc2) (x .noc3))) (refuse 9 x)
+    cond (room (x .noc1)) (done 3 0 1 (headed (row (x .head .n0) u w v (x .head .words)) (push (x .noc1) (row k w 0 0 zeros)) (x .noc2) (x .noc3))) (refuse 9 x)
 
 unfoldable pub loadOn : ℕ → TileBlock → TileStep
 loadOn w x =
     cond (ltb w 8)
-    (cond (eqb (x .head .n1) 0) (cond (eqb (x .head .n0) 0) (asks 31 1 w 0 x) (done 1 (getD (x .head .words) w 0) x)) (refuse 4 x))
+    (cond (eqb (x .head .n1) 0) (cond (eqb (x .head .n0) 0) (asks 31 1 w 0 x) (done 1 (getD (x .head .words) w 0) 0 x)) (refuse 4 x))
     (refuse 3 x)
 
 unfoldable pub storeOn : ℕ → ℕ → TileBlock → TileStep
 storeOn w v x =
     cond (ltb w 8)
     (cond (eqb (x .head .n1) 0)
-    (cond (ltb (x .head .n0) 2) (asks 2 2 w v x) (done 2 0 (headed (row 3 0 0 0 (set (x .head .words) w v)) (x .noc1) (x .noc2) (x .noc3))))
+    (cond (ltb (x .head .n0) 2) (asks 2 2 w v x) (done 2 0 0 (headed (row 3 0 0 0 (set (x .head .words) w v)) (x .noc1) (x .noc2) (x .noc3))))
     (refuse 4 x))
     (refuse 3 x)
 
@@ -57,21 +58,21 @@ dropped h = row 0 (h .n1) (h .n2) (h .n3) zeros
 unfoldable pub writesBack : TileBlock → TileStep
 writesBack x =
     cond (room (x .noc3))
-    (cond (room (x .noc1)) (done 3 0 (headed (dropped (x .head)) (push (x .noc1) (row 13 0 0 0 zeros)) (x .noc2) (push (x .noc3) (row 12 0 0 0 (x .head .words))))) (refuse 9 x))
+    (cond (room (x .noc1)) (done 3 0 6 (headed (dropped (x .head)) (push (x .noc1) (row 13 0 0 0 zeros)) (x .noc2) (push (x .noc3) (row 12 0 0 0 (x .head .words))))) (refuse 9 x))
     (refuse 9 x)
 
 unfoldable pub evictOn : TileBlock → TileStep
 evictOn x =
-    cond (eqb (x .head .n0) 0) (refuse 5 x) (cond (eqb (x .head .n0) 3) (writesBack x) (done 0 0 (headed (dropped (x .head)) (x .noc1) (x .noc2) (x .noc3))))
+    cond (eqb (x .head .n0) 0) (refuse 5 x) (cond (eqb (x .head .n0) 3) (writesBack x) (done 0 0 0 (headed (dropped (x .head)) (x .noc1) (x .noc2) (x .noc3))))
 
 -- the ack m is sent, the state becomes s and the words ws; the waiting access stays
 unfoldable pub answers : ℕ → List ℕ → Row → TileBlock → TileStep
 answers s ws m x =
-    cond (room (x .noc3)) (done 3 0 (headed (row s (x .head .n1) (x .head .n2) (x .head .n3) ws) (x .noc1) (pop (x .noc2)) (push (x .noc3) m))) (refuse 9 x)
+    cond (room (x .noc3)) (done 3 0 3 (headed (row s (x .head .n1) (x .head .n2) (x .head .n3) ws) (x .noc1) (pop (x .noc2)) (push (x .noc3) m))) (refuse 9 x)
 
 -- the line comes in: state s, words ws, nothing waits any more
 unfoldable pub fills : ℕ → ℕ → ℕ → List ℕ → TileBlock → TileStep
-fills k v s ws x = done k v (headed (row s 0 0 0 ws) (x .noc1) (pop (x .noc2)) (x .noc3))
+fills k v s ws x = done k v 0 (headed (row s 0 0 0 ws) (x .noc1) (pop (x .noc2)) (x .noc3))
 
 unfoldable pub onLoadFwd : ℕ → TileBlock → TileStep
 onLoadFwd s x =

@@ -13,6 +13,7 @@ pub struct TileStep {
     pub refusal: u64,
     pub kind: u64,
     pub value: u64,
+    pub sent: u64,
     pub tile: TileBlock,
 }
 
@@ -23,17 +24,19 @@ fn refuse(n: u64, x: TileBlock) -> TileStep
         refusal: n,
         kind: 0,
         value: 0,
+        sent: 0,
         tile: x,
     }
 }
 
-fn done(k: u64, v: u64, x: TileBlock) -> TileStep
-    ensures { λ r. ⌜ r ≡ done k v x ⌝ }
+fn done(k: u64, v: u64, s: u64, x: TileBlock) -> TileStep
+    ensures { λ r. ⌜ r ≡ done k v s x ⌝ }
 {
     TileStep {
         refusal: 0,
         kind: k,
         value: v,
+        sent: s,
         tile: x,
     }
 }
@@ -121,7 +124,7 @@ fn asks(k: u64, u: u64, w: u64, v: u64, x: TileBlock) -> TileStep
 {
     let free = room(x.noc1);
     if free {
-        done(3, 0, waiting(k, u, w, v, x))
+        done(3, 0, 1, waiting(k, u, w, v, x))
     } else {
         refuse(9, x)
     }
@@ -155,7 +158,7 @@ pub fn load_on(w: u64, x: TileBlock) -> TileStep
             if h.n0 == 0 {
                 asks(31, 1, w, 0, x)
             } else {
-                done(1, word_of(d, w), x)
+                done(1, word_of(d, w), 0, x)
             }
         } else {
             refuse(4, x)
@@ -183,7 +186,7 @@ pub fn store_on(w: u64, v: u64, x: TileBlock) -> TileStep
             if h.n0 < 2 {
                 asks(2, 2, w, v, x)
             } else {
-                done(2, 0, stored(w, v, x))
+                done(2, 0, 0, stored(w, v, x))
             }
         } else {
             refuse(4, x)
@@ -219,7 +222,7 @@ fn writes_back(x: TileBlock) -> TileStep
     let noc1 = room(x.noc1);
     if noc3 {
         if noc1 {
-            done(3, 0, written_back(x))
+            done(3, 0, 6, written_back(x))
         } else {
             refuse(9, x)
         }
@@ -238,7 +241,7 @@ pub fn evict_on(x: TileBlock) -> TileStep
         if h.n0 == 3 {
             writes_back(x)
         } else {
-            done(0, 0, headed(dropped(h), x.noc1, x.noc2, x.noc3))
+            done(0, 0, 0, headed(dropped(h), x.noc1, x.noc2, x.noc3))
         }
     }
 }
@@ -260,7 +263,7 @@ fn answers(s: u64, ws: [u64; 8], m: Row, x: TileBlock) -> TileStep
 {
     let free = room(x.noc3);
     if free {
-        done(3, 0, answered(s, ws, m, x))
+        done(3, 0, 3, answered(s, ws, m, x))
     } else {
         refuse(9, x)
     }
@@ -272,6 +275,7 @@ fn fills(k: u64, v: u64, s: u64, ws: [u64; 8], x: TileBlock) -> TileStep
     done(
         k,
         v,
+        0,
         headed(row(s, 0, 0, 0, ws), x.noc1, pop(x.noc2), x.noc3),
     )
 }
