@@ -90,12 +90,12 @@ module _ (l : List ℕ) (H : HomeBlock) (ts : List Tile) (r : List ℕ) (laid : 
   pub write-tile : (t : ℕ) (y : Tile) → t < length ts → TileFull (encTile y) → Laid (over l (74 + 84 * t) (tileWords (encTile y))) H (set ts t y) r
   write-tile t y h g =
       let e : 74 + 84 * t ≡ length (homeWords H) + 84 * t = omega (arith, length-home H (laid .full)) in
-      record
-        { is = rw (laid .is) (ap (λ (i : ℕ). over (homeWords H ++ (encTiles ts ++ r)) i (tileWords (encTile y))) e ∙ over-behind (homeWords H) (encTiles ts ++ r) (84 * t) (tileWords (encTile y))
-            ∙ ap (λ (z : List ℕ). homeWords H ++ z) (tiles-set ts t y r h (laid .tiles) g))
-        ; full = laid .full
-        ; tiles = full-set ts t y (laid .tiles) g
-        }
+      record {
+        is = rw (laid .is) (ap (λ (i : ℕ). over (homeWords H ++ (encTiles ts ++ r)) i (tileWords (encTile y))) e ∙ over-behind (homeWords H) (encTiles ts ++ r) (84 * t) (tileWords (encTile y))
+            ∙ ap (λ (z : List ℕ). homeWords H ++ z) (tiles-set ts t y r h (laid .tiles) g));
+        full = laid .full;
+        tiles = full-set ts t y (laid .tiles) g;
+      }
 
 -- laid out as the encoding of a bench
 pub laid-encode : (l : List ℕ) (h : Home) (t k : ℕ) (mem : Words) (out : Queue ToMemory) (back : Queue FromMemory) (ts : List Tile) (r : List ℕ) →

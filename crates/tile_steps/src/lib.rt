@@ -3,7 +3,7 @@ ghost use mathlib.Core.Path.{_≡_};
 ghost use Prim.Native.Nat.{_<_};
 ghost use lib.ListN.{length, getD, set};
 ghost use Rattle.codec.specs.Encode.{zeros, row};
-ghost use Rattle.tile_steps.specs.Steps.{refuse, done, room, push, pop, headed, asks, loadOn, storeOn, dropped, writesBack, evictOn, answers, fills, onLoadFwd, onStoreFwd, onInvFwd, onForward, onStoreFill, onLoadFill, onDataAck, deliverOn};
+ghost use Rattle.tile_steps.specs.Steps.{refuse, done, room, push, pop, headed, asks, loadOn, storeOn, dropped, writesBack, evictOn, answers, fills, onLoadFwd, onStoreFwd, onInvFwd, onForward, onStoreFill, onLoadFill, onDataAck, deliverOn, tileStepOn};
 use words::Pair;
 use words::Row;
 use words::TileBlock;
@@ -390,5 +390,18 @@ pub fn deliver_on(x: TileBlock) -> TileStep
         0 => refuse(7, x),
         16..=18 => on_forward(k, h.n0, x),
         _ => on_data_ack(m.n2, d, x),
+    }
+}
+
+// One of the four by number: 0 load, 1 store, 2 evict, else delivery to the tile.
+pub fn step_on(c: u64, w: u64, v: u64, x: TileBlock) -> TileStep
+    requires { ⌜ x .head .n2 < 8 ⌝ }
+    ensures { λ r. ⌜ r ≡ tileStepOn c w v x ⌝ }
+{
+    match c {
+        0 => load_on(w, x),
+        1 => store_on(w, v, x),
+        2 => evict_on(x),
+        _ => deliver_on(x),
     }
 }

@@ -61,7 +61,7 @@ unfolding pairAt pairWords
 pair-front p l f =
     let x : rowAt (rowWords (p .a) ++ rowWords (p .b) ++ l) 0 ≡ p .a = rw append-assoc (row-front (p .a) (rowWords (p .b) ++ l) (f .first)) in
     let y : rowAt (rowWords (p .a) ++ rowWords (p .b) ++ l) 12 ≡ p .b =
-        rw append-assoc (row-at (rowWords (p .a)) (rowWords (p .b) ++ l) 12 (length-row (p .a) (f .first)) ∙ row-front (p .b) l (f .second)) in
+    rw append-assoc (row-at (rowWords (p .a)) (rowWords (p .b) ++ l) 12 (length-row (p .a) (f .first)) ∙ row-front (p .b) l (f .second)) in
     λ j. record { a = x j; b = y j }
 
 pub tile-front : (x : TileBlock) (l : List ℕ) → TileFull x → tileAt (tileWords x ++ l) 0 ≡ x
@@ -80,9 +80,9 @@ tile-front x l f =
     let a : rowAt (H ++ (P ++ (Q ++ R)) ++ l) 0 ≡ x .head = ap (λ (y : List ℕ). rowAt y 0) e0 ∙ row-front (x .head) _ (f .head-full) in
     let b : pairAt (H ++ (P ++ (Q ++ R)) ++ l) 12 ≡ x .noc1 = ap (λ (y : List ℕ). pairAt y 12) e0 ∙ pair-at H _ 12 h ∙ pair-front (x .noc1) _ (f .noc1-full) in
     let c : pairAt (H ++ (P ++ (Q ++ R)) ++ l) 36 ≡ x .noc2 =
-        ap (λ (y : List ℕ). pairAt y 36) e2 ∙ pair-at (H ++ P) _ 36 (simp length-append (omega arith)) ∙ pair-front (x .noc2) _ (f .noc2-full) in
+    ap (λ (y : List ℕ). pairAt y 36) e2 ∙ pair-at (H ++ P) _ 36 (simp length-append (omega arith)) ∙ pair-front (x .noc2) _ (f .noc2-full) in
     let d : pairAt (H ++ (P ++ (Q ++ R)) ++ l) 60 ≡ x .noc3 =
-        ap (λ (y : List ℕ). pairAt y 60) e3 ∙ pair-at (H ++ P ++ Q) _ 60 (simp length-append (omega arith)) ∙ pair-front (x .noc3) _ (f .noc3-full) in
+    ap (λ (y : List ℕ). pairAt y 60) e3 ∙ pair-at (H ++ P ++ Q) _ 60 (simp length-append (omega arith)) ∙ pair-front (x .noc3) _ (f .noc3-full) in
     λ j. record { head = a j; noc1 = b j; noc2 = c j; noc3 = d j }
 
 pub tile-at : (A l : List ℕ) (x : TileBlock) (n : ℕ) → length A ≡ n → TileFull x → tileAt (A ++ (tileWords x ++ l)) n ≡ x
@@ -105,11 +105,11 @@ home-front x l f =
     let e3 : S ++ (H ++ (K ++ (P ++ Q))) ++ l ≡ S ++ H ++ K ++ P ++ (Q ++ l) = simp append-assoc in
     let a : rowAt (S ++ (H ++ (K ++ (P ++ Q))) ++ l) 2 ≡ x .line = ap (λ (y : List ℕ). rowAt y 2) e0 ∙ row-at S _ 2 refl ∙ row-front (x .line) _ (f .line-full) in
     let b : rowAt (S ++ (H ++ (K ++ (P ++ Q))) ++ l) 14 ≡ x .control =
-        ap (λ (y : List ℕ). rowAt y 14) e1 ∙ row-at (S ++ H) _ 14 (simp length-append (omega arith)) ∙ row-front (x .control) _ (f .control-full) in
+    ap (λ (y : List ℕ). rowAt y 14) e1 ∙ row-at (S ++ H) _ 14 (simp length-append (omega arith)) ∙ row-front (x .control) _ (f .control-full) in
     let c : pairAt (S ++ (H ++ (K ++ (P ++ Q))) ++ l) 26 ≡ x .out =
-        ap (λ (y : List ℕ). pairAt y 26) e2 ∙ pair-at (S ++ H ++ K) _ 26 (simp length-append (omega arith)) ∙ pair-front (x .out) _ (f .out-full) in
+    ap (λ (y : List ℕ). pairAt y 26) e2 ∙ pair-at (S ++ H ++ K) _ 26 (simp length-append (omega arith)) ∙ pair-front (x .out) _ (f .out-full) in
     let d : pairAt (S ++ (H ++ (K ++ (P ++ Q))) ++ l) 50 ≡ x .back =
-        ap (λ (y : List ℕ). pairAt y 50) e3 ∙ pair-at (S ++ H ++ K ++ P) _ 50 (simp length-append (omega arith)) ∙ pair-front (x .back) _ (f .back-full) in
+    ap (λ (y : List ℕ). pairAt y 50) e3 ∙ pair-at (S ++ H ++ K ++ P) _ 50 (simp length-append (omega arith)) ∙ pair-front (x .back) _ (f .back-full) in
     λ j. record { tiles = x .tiles; phase = x .phase; line = a j; control = b j; out = c j; back = d j }
 
 -- what is read has rows of eight words

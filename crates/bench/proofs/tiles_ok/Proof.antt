@@ -6,9 +6,6 @@ use Rattle.bench.specs.Calls.{need, tilesOk}
 use Rattle.bench.proofs.Guard.{tiles-turn, tiles-end}
 use Rattle.bench.proofs.tiles_ok.Statement.{statement}
 use Rattle.bench.proofs.tiles_ok.Tie as tie
-use Rattle.bench.proofs.tiles_ok.Reads as reads
-use Rattle.bench.proofs.tiles_ok.Lts as lts
-use Rattle.bench.proofs.one_tile_ok.Reads as one-tile-ok-reads
 
 abbrev Inv-loop : tie.InvT-loop
 Inv-loop w n ok₀ at₀ left₀ ok at left = (tilesOk ok w at left ≡ tilesOk true w 74 n) × (at + 84 * left ≡ need n) × (left ≤ 64)
@@ -16,34 +13,30 @@ Inv-loop w n ok₀ at₀ left₀ ok at left = (tilesOk ok w at left ≡ tilesOk 
 abbrev μ-loop : tie.MeasureT-loop
 μ-loop w n ok₀ at₀ left₀ ok at left = left
 
--- src/lib.rt:49:5
 loop-holds : tie.Need-loop-holds Inv-loop μ-loop
 loop-holds c = (refl, omega arith, c .before .pre .1)
 
--- src/lib.rt:50:19
 one-tile-ok-requires : tie.Need-one-tile-ok-requires Inv-loop μ-loop
 one-tile-ok-requires c κs = omega arith
 
--- src/lib.rt:51:14
 add-at : tie.Need-add-at Inv-loop μ-loop
 add-at c = omega arith
 
--- src/lib.rt:52:16
 sub-left : tie.Need-sub-left Inv-loop μ-loop
 sub-left c = omega arith
 
--- src/lib.rt:49:5
 loop-less : tie.Need-loop-less Inv-loop μ-loop
 loop-less c = omega arith
 
--- src/lib.rt:49:5
 loop-again : tie.Need-loop-again Inv-loop μ-loop
-loop-again c =
-    (ap (λ (b : Bool). tilesOk (c .before .before .loop .ok && b) (c .before .before .before .before .args .w .now) (c .before .before .loop .at + 84) (c .before .before .loop .left - 1)) (c .one-tile-ok .ensures)
-    ∙ sym (tiles-turn (c .before .before .loop .ok) (c .before .before .before .before .args .w .now) (c .before .before .loop .at) (c .before .before .loop .left) (c .before .loop-test .taken))
-    ∙ c .before .before .loop .inv .0, omega arith, omega arith)
+loop-again c = (
+  ap (λ (b : Bool). tilesOk (c .before .before .loop .ok && b) (c .before .before .before .before .args .w .now) (c .before .before .loop .at + 84) (c .before .before .loop .left - 1)) (c .one-tile-ok .ensures)
+      ∙ sym (tiles-turn (c .before .before .loop .ok) (c .before .before .before .before .args .w .now) (c .before .before .loop .at) (c .before .before .loop .left) (c .before .loop-test .taken))
+      ∙ c .before .before .loop .inv .0,
+  omega arith,
+  omega arith,
+)
 
--- src/lib.rt:42:1
 returns : tie.Need-returns Inv-loop μ-loop
 returns c = sym (tiles-end _ _ _ _ (c .loop-test .left)) ∙ c .before .loop .inv .0
 
