@@ -1,0 +1,4 @@
+pub mod Guard
+pub mod Laid
+pub mod Decoded
+pub mod TileCalls

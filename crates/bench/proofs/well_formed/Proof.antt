@@ -1,0 +1,46 @@
+use Rattle.bench.proofs.Guard.{home-some}
+use mathlib.Core.Path.{refl}
+use borrow.Author.Tests.{eq-eqb, ne-eqb, lt-ltb, le-ltb, le-leb, lt-leb}
+use Rattle.bench.specs.Calls.{wellFormed}
+use borrow.Author.Needs.{needs}
+use Rattle.bench.proofs.well_formed.Statement.{statement}
+use Rattle.bench.proofs.well_formed.Tie as tie
+
+home-ok-requires : tie.Need-home-ok-requires
+home-ok-requires c κs = home-some _ _ (c .read-home .ensures) (c .before .before .before .if2 .taken)
+
+returns : tie.Need-returns
+unfolding wellFormed
+returns c = simp (c .tiles-ok .ensures, c .before .home-ok .ensures, c .before .before .read-home .ensures, le-leb _ _ (c .before .before .before .if4 .taken), le-leb _ _ (c .before .before .before .before .if3 .taken), lt-ltb _ _ (c .before .before .before .before .before .if2 .taken), le-leb _ _ (c .before .before .before .before .before .before .before .if1 .taken))
+
+returns-2 : tie.Need-returns-2
+unfolding wellFormed
+returns-2 c = simp (lt-leb _ _ (c .if4 .left), le-leb _ _ (c .before .if3 .taken), lt-ltb _ _ (c .before .before .if2 .taken), le-leb _ _ (c .before .before .before .before .if1 .taken))
+
+returns-3 : tie.Need-returns-3
+unfolding wellFormed
+returns-3 c = simp (lt-leb _ _ (c .if3 .left), lt-ltb _ _ (c .before .if2 .taken), le-leb _ _ (c .before .before .before .if1 .taken))
+
+returns-4 : tie.Need-returns-4
+unfolding wellFormed
+returns-4 c = simp (le-ltb _ _ (c .if2 .left), le-leb _ _ (c .before .before .if1 .taken))
+
+returns-5 : tie.Need-returns-5
+unfolding wellFormed
+returns-5 c = simp (lt-leb _ _ (c .if1 .left))
+
+pub well-formed-spec : {M : Type 1} → statement M
+well-formed-spec =
+    tie.close
+    (tie.spec
+    (λ c. search needs)
+    (λ c. search needs)
+    (λ c. search needs)
+    (λ c κs. search needs)
+    home-ok-requires
+    (λ c κs. search needs)
+    returns
+    returns-2
+    returns-3
+    returns-4
+    returns-5)

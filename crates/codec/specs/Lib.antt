@@ -1,0 +1,4 @@
+pub mod Encode
+pub mod Decode
+pub mod Same
+pub mod Sent

@@ -1,0 +1,30 @@
+use mathlib.Core.Path.{refl}
+use borrow.Author.Tests.{eq-eqb, ne-eqb, lt-ltb, le-ltb, le-leb, lt-leb}
+use Rattle.tile_steps.specs.Steps.{onLoadFill}
+use borrow.Author.Needs.{needs}
+use Rattle.tile_steps.proofs.on_load_fill.Statement.{statement}
+use Rattle.tile_steps.proofs.on_load_fill.Tie as tie
+
+returns : tie.Need-returns
+unfolding onLoadFill
+returns c = simp (c .fills .ensures, c .before .word-of .ensures, eq-eqb _ _ (c .before .before .if2 .taken), eq-eqb _ _ (c .before .before .before .before .if1 .taken))
+
+returns-2 : tie.Need-returns-2
+unfolding onLoadFill
+returns-2 c = simp (c .refuse .ensures, ne-eqb _ _ (c .before .if2 .left), eq-eqb _ _ (c .before .before .before .if1 .taken))
+
+returns-3 : tie.Need-returns-3
+unfolding onLoadFill
+returns-3 c = simp (c .refuse2 .ensures, ne-eqb _ _ (c .before .if1 .left))
+
+pub on-load-fill-spec : {M : Type 1} → statement M
+on-load-fill-spec =
+    tie.close
+    (tie.spec
+    (λ c κs. search needs)
+    (λ c κs. search needs)
+    (λ c κs. search needs)
+    (λ c κs. search needs)
+    returns
+    returns-2
+    returns-3)

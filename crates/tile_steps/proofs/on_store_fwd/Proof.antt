@@ -1,0 +1,31 @@
+use mathlib.Core.Path.{refl}
+use borrow.Author.Tests.{eq-eqb, ne-eqb, lt-ltb, le-ltb, le-leb, lt-leb}
+use Rattle.tile_steps.specs.Steps.{onStoreFwd}
+use borrow.Author.Needs.{needs}
+use Rattle.tile_steps.proofs.on_store_fwd.Statement.{statement}
+use Rattle.tile_steps.proofs.on_store_fwd.Tie as tie
+
+returns : tie.Need-returns
+unfolding onStoreFwd
+returns c = simp (c .refuse .ensures, c .before .match .keys1)
+
+returns-2 : tie.Need-returns-2
+unfolding onStoreFwd
+returns-2 c = simp (c .answers .ensures, c .before .row .ensures, c .before .before .match .keys2)
+
+returns-3 : tie.Need-returns-3
+unfolding onStoreFwd
+returns-3 c = simp (c .answers2 .ensures, c .before .bare .ensures, ne-eqb _ _ (c .before .before .match .rest .1), ne-eqb _ _ (c .before .before .match .rest .0 .1))
+
+pub on-store-fwd-spec : {M : Type 1} → statement M
+on-store-fwd-spec =
+    tie.close
+    (tie.spec
+    (λ c κs. search needs)
+    (λ c κs. search needs)
+    (λ c κs. search needs)
+    (λ c κs. search needs)
+    (λ c κs. search needs)
+    returns
+    returns-2
+    returns-3)
