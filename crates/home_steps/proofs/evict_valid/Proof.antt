@@ -1,0 +1,23 @@
+use mathlib.Core.Path.{refl}
+use borrow.Author.Tests.{eq-eqb, ne-eqb, lt-ltb, le-ltb, le-leb, lt-leb}
+use Rattle.home_steps.specs.Numbers.{evictValid}
+use borrow.Author.Needs.{needs}
+use Rattle.home_steps.proofs.evict_valid.Statement.{statement}
+use Rattle.home_steps.proofs.evict_valid.Tie as tie
+
+returns : tie.Need-returns
+unfolding evictValid
+returns c = simp (c .leave .ensures, c .before .match .keys1)
+
+returns-2 : tie.Need-returns-2
+unfolding evictValid
+returns-2 c = simp (c .evict-shared .ensures, c .before .match .keys2)
+
+returns-3 : tie.Need-returns-3
+unfolding evictValid
+returns-3 c = simp (c .ask .ensures, ne-eqb _ _ (c .before .match .rest .1), ne-eqb _ _ (c .before .match .rest .0 .1))
+
+pub evict-valid-spec : {M : Type 1} → statement M
+evict-valid-spec =
+    tie.close
+    (tie.spec (λ c κs. search needs) (λ c κs. search needs) (λ c κs. search needs) returns returns-2 returns-3)

@@ -1,0 +1,22 @@
+use mathlib.Core.Path.{refl}
+use borrow.Author.Tests.{eq-eqb, ne-eqb, lt-ltb, le-ltb, le-leb, lt-leb}
+use Rattle.home_steps.specs.Numbers.{memoryAck}
+use borrow.Author.Needs.{needs}
+use Rattle.home_steps.proofs.memory_ack.Statement.{statement}
+use Rattle.home_steps.proofs.memory_ack.Tie as tie
+
+returns : tie.Need-returns
+unfolding memoryAck
+returns c = simp (c .stop .ensures, c .before .match .keys1)
+
+returns-2 : tie.Need-returns-2
+unfolding memoryAck
+returns-2 c = simp (c .fill .ensures, c .before .match .keys2)
+
+returns-3 : tie.Need-returns-3
+unfolding memoryAck
+returns-3 c = simp (c .drop .ensures, ne-eqb _ _ (c .before .match .rest .1), ne-eqb _ _ (c .before .match .rest .0 .1))
+
+pub memory-ack-spec : {M : Type 1} → statement M
+memory-ack-spec =
+    tie.close (tie.spec (λ c κs. search needs) (λ c κs. search needs) (λ c κs. search needs) returns returns-2 returns-3)

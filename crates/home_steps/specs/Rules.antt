@@ -1,0 +1,193 @@
+-- The rules of the home without the tiles: each call gives the home, last taken, marks, memory and memory queues after it, and the
+-- messages that it sends. What it sends to or from memory is on its queue already; what it sends to tiles is not.
+use Prim.Native.Nat.{ℕ, _<_, _^_}
+use mathlib.Core.Path.{_≡_}
+use mathlib.Core.Bool.{Bool, cond, true, false}
+use mathlib.Core.List.{List, [], _∷_, map}
+use mathlib.Core.Option.{Option, some, none, Option·map}
+use Rattle.bits.specs.Mask.{has, add, del, add64}
+use Rattle.words.specs.declared.Row.{Row}
+use Rattle.words.specs.declared.HomeBlock.{HomeBlock}
+use Rattle.codec.specs.Encode.{noRow, encForward, encHome}
+use Rattle.protocol.specs.Parts.{Words, Queue, empty, one, two, Access, reading, writing, Request, loadReq, storeReq, wbGuardReq, Forward, Reply, wbReq, loadFwdAckS, loadFwdAckI, storeFwdAck, invFwdAck, ToMemory, loadMem, storeMem, FromMemory, loadMemAck, storeMemAck, Message, onNoc1, onNoc2, onNoc3, toMemory, fromMemory, Tile, Directory, uncached, sharedBy, ownedBy, Line, absent, present, Cause, request, eviction, Clearing, clearForStore, clearForEviction, Home, idle, awaitingLoad, awaitingOwner, awaitingAcks, awaitingStore, Bench, benchOf, Result, refused}
+use Rattle.protocol.specs.Home.{Move, move, members, serve, writeBack, loadAckS, loadAckI, storeAck, invAck, acknowledged, evictLine}
+use Rattle.protocol.specs.Bench.{push, front, rest, sendOne, sent, kindOf}
+use Rattle.home_steps.specs.declared.HomeStep.{HomeStep}
+use Rattle.home_steps.specs.Numbers.{stepOf, stop}
+
+-- a refusal number; or home, last taken, marks, memory, queues to and from memory, and messages sent
+pub data HomeResult : Type 0 where
+  stopped : ℕ → HomeResult
+  went : Home → ℕ → ℕ → Words → Queue ToMemory → Queue FromMemory → List Message → HomeResult
+
+-- the queues to and from memory
+pub data Queues : Type 0 where
+  queuesOf : Queue ToMemory → Queue FromMemory → Queues
+
+-- messages to and from memory put on their queues: `none` where one holds two
+unfoldable pub fileOne : Message → Queues → Option Queues
+fileOne (onNoc1 t m) q = some q
+fileOne (onNoc2 t m) q = some q
+fileOne (onNoc3 t m) q = some q
+fileOne (toMemory m) (queuesOf out back) = Option·map (λ q. queuesOf q back) (push m out)
+fileOne (fromMemory m) (queuesOf out back) = Option·map (λ q. queuesOf out q) (push m back)
+
+unfoldable pub fileTo : Message → Option Queues → Option Queues
+fileTo m none = none
+fileTo m (some q) = fileOne m q
+
+unfoldable pub fileAll : List Message → Option Queues → Option Queues
+fileAll [] o = o
+fileAll (m ∷ ms) o = fileAll ms (fileTo m o)
+
+-- the other messages put on theirs
+unfoldable pub forwardOne : Message → Bench → Option Bench
+forwardOne (onNoc1 t m) b = sendOne (onNoc1 t m) b
+forwardOne (onNoc2 t m) b = sendOne (onNoc2 t m) b
+forwardOne (onNoc3 t m) b = sendOne (onNoc3 t m) b
+forwardOne (toMemory m) b = some b
+forwardOne (fromMemory m) b = some b
+
+unfoldable pub forwardTo : Message → Option Bench → Option Bench
+forwardTo m none = none
+forwardTo m (some b) = forwardOne m b
+
+unfoldable pub forwardAll : List Message → Option Bench → Option Bench
+forwardAll [] o = o
+forwardAll (m ∷ ms) o = forwardAll ms (forwardTo m o)
+
+-- the result with tiles ts and the answer's value v, once its messages to tiles are on their queues (9 where one holds two)
+unfoldable pub spread : ℕ → HomeResult → List Tile → Result Bench
+spread v (stopped r) ts = refused r
+spread v (went h l k mem out back ms) ts = sent (kindOf ms) v ms (forwardAll ms (some (benchOf h l k mem out back ts)))
+
+-- a rule's move, its messages to and from memory put on their queues
+unfoldable pub wentWith : List Message → Option Queues → Home → ℕ → ℕ → Words → HomeResult
+wentWith ms none h l k mem = stopped 9
+wentWith ms (some (queuesOf out back)) h l k mem = went h l k mem out back ms
+
+unfoldable pub movedHome : Move → ℕ → ℕ → Words → Queue ToMemory → Queue FromMemory → HomeResult
+movedHome (move h ms) l k mem out back = wentWith ms (fileAll ms (some (queuesOf out back))) h l k mem
+
+unfoldable pub fitting : Option Move → ℕ → ℕ → Words → Queue ToMemory → Queue FromMemory → HomeResult
+fitting none l k mem out back = stopped 8
+fitting (some m) l k mem out back = movedHome m l k mem out back
+
+-- Taking of tile t, whose NoC1 front it is, by an idle home with line x, on a bench of n tiles.
+unfoldable pub takenHome : ℕ → ℕ → Option Request → Line → ℕ → Words → Queue ToMemory → Queue FromMemory → HomeResult
+takenHome n t none x k mem out back = stopped 7
+takenHome n t (some wbGuardReq) x k mem out back = went (idle x) t (del k t) mem out back []
+takenHome n t (some (loadReq w)) x k mem out back = movedHome (serve n t reading x) t k mem out back
+takenHome n t (some (storeReq w)) x k mem out back = movedHome (serve n t writing x) t k mem out back
+
+-- Delivery from tile t, whose NoC3 front it is.
+unfoldable pub writtenHome : ℕ → Option Home → ℕ → ℕ → Words → Queue ToMemory → Queue FromMemory → HomeResult
+writtenHome t none l k mem out back = stopped 8
+writtenHome t (some h) l k mem out back = went h l (add k t) mem out back []
+
+unfoldable pub acceptedHome : ℕ → Option Reply → Home → ℕ → ℕ → Words → Queue ToMemory → Queue FromMemory → HomeResult
+acceptedHome t none h l k mem out back = stopped 7
+acceptedHome t (some (wbReq ws)) h l k mem out back = writtenHome t (writeBack t ws (has k t) h) l k mem out back
+acceptedHome t (some (loadFwdAckS x)) h l k mem out back = fitting (loadAckS t x h) l k mem out back
+acceptedHome t (some loadFwdAckI) h l k mem out back = fitting (loadAckI t h) l k mem out back
+acceptedHome t (some (storeFwdAck x)) h l k mem out back = fitting (storeAck t x h) l k mem out back
+acceptedHome t (some invFwdAck) h l k mem out back = fitting (invAck t h) l k mem out back
+
+-- Memory step, of the front of the queue to memory, whose rest is `out`.
+unfoldable pub servedMemory : Option ToMemory → Home → ℕ → ℕ → Words → Queue ToMemory → Queue FromMemory → HomeResult
+servedMemory none h l k mem out back = stopped 7
+servedMemory (some loadMem) h l k mem out back = movedHome (move h (fromMemory (loadMemAck mem) ∷ [])) l k mem out back
+servedMemory (some (storeMem ws)) h l k mem out back = movedHome (move h (fromMemory storeMemAck ∷ [])) l k ws out back
+
+unfoldable pub steppedHome : Home → ℕ → ℕ → Words → Queue ToMemory → Queue FromMemory → HomeResult
+steppedHome h l k mem out back = servedMemory (front out) h l k mem (rest out) back
+
+-- Memory ack, of the front of the queue from memory, whose rest is `back`.
+unfoldable pub ackedFront : Option FromMemory → Home → ℕ → ℕ → Words → Queue ToMemory → Queue FromMemory → HomeResult
+ackedFront none h l k mem out back = stopped 7
+ackedFront (some m) h l k mem out back = fitting (acknowledged m h) l k mem out back
+
+unfoldable pub ackedHome : Home → ℕ → ℕ → Words → Queue ToMemory → Queue FromMemory → HomeResult
+ackedHome h l k mem out back = ackedFront (front back) h l k mem out (rest back)
+
+-- Home eviction.
+unfoldable pub evictedHome : ℕ → Home → ℕ → ℕ → Words → Queue ToMemory → Queue FromMemory → HomeResult
+evictedHome n (idle absent) l k mem out back = stopped 5
+evictedHome n (idle (present d ws x)) l k mem out back = movedHome (evictLine n d ws x) l k mem out back
+evictedHome n (awaitingLoad r a x) l k mem out back = stopped 6
+evictedHome n (awaitingOwner d ws o c) l k mem out back = stopped 6
+evictedHome n (awaitingAcks d ws m u c) l k mem out back = stopped 6
+evictedHome n (awaitingStore x) l k mem out back = stopped 6
+
+-- The numbers of a result. Messages sent: the number of the network (4 to memory, 5 from memory), the mask of the tiles on NoC2 and
+-- the message for them.
+unfoldable pub sentNumber : List Message → ℕ
+sentNumber [] = 0
+sentNumber (onNoc1 t m ∷ ms) = 1
+sentNumber (onNoc2 t m ∷ ms) = 2
+sentNumber (onNoc3 t m ∷ ms) = 3
+sentNumber (toMemory m ∷ ms) = 4
+sentNumber (fromMemory m ∷ ms) = 5
+
+unfoldable pub targets : List Message → ℕ
+targets [] = 0
+targets (onNoc1 t m ∷ ms) = targets ms
+targets (onNoc2 t m ∷ ms) = add64 (targets ms) t
+targets (onNoc3 t m ∷ ms) = targets ms
+targets (toMemory m ∷ ms) = targets ms
+targets (fromMemory m ∷ ms) = targets ms
+
+unfoldable pub forwardRow : List Message → Row
+forwardRow [] = noRow
+forwardRow (onNoc1 t m ∷ ms) = forwardRow ms
+forwardRow (onNoc2 t m ∷ ms) = encForward m
+forwardRow (onNoc3 t m ∷ ms) = forwardRow ms
+forwardRow (toMemory m ∷ ms) = forwardRow ms
+forwardRow (fromMemory m ∷ ms) = forwardRow ms
+
+-- of a step on the block x of a bench of n tiles
+unfoldable pub encStep : ℕ → HomeBlock → HomeResult → HomeStep
+encStep n x (stopped r) = stop x r
+encStep n x (went h l k mem out back ms) = stepOf 0 (kindOf ms) (encHome n h l k mem out back) (sentNumber ms) (targets ms) (forwardRow ms)
+
+-- the front of a queue, as its first row has it
+unfoldable pub encFront : {A : Type 0} → (A → Row) → Option A → Row
+encFront f none = noRow
+encFront f (some a) = f a
+
+-- the message f for every tile of a mask, of n tiles, in rising order
+unfoldable pub told : ℕ → ℕ → Forward → List Message
+told n m f = map (λ t. onNoc2 t f) (members m n)
+
+-- What a result sends: nothing; a message for every tile of a mask that is not empty; or one message to or from memory.
+pub data Sends (n : ℕ) : HomeResult → Type 0 where
+  refuses : (r : ℕ) → 0 < r → Sends n (stopped r)
+  silent : {h : Home} {l k : ℕ} {mem : Words} {out : Queue ToMemory} {back : Queue FromMemory} → Sends n (went h l k mem out back [])
+  tells : {h : Home} {l k : ℕ} {mem : Words} {out : Queue ToMemory} {back : Queue FromMemory} → (m : ℕ) (f : Forward) → 0 < m → m < 2 ^ n → {ms : List Message} → ms ≡ told n m f → Sends n (went h l k mem out back ms)
+  files : {h : Home} {l k : ℕ} {mem : Words} {out : Queue ToMemory} {back : Queue FromMemory} {m : ToMemory} → Sends n (went h l k mem out back (toMemory m ∷ []))
+  answers : {h : Home} {l k : ℕ} {mem : Words} {out : Queue ToMemory} {back : Queue FromMemory} {m : FromMemory} → Sends n (went h l k mem out back (fromMemory m ∷ []))
+
+-- Tile numbers below n and masks below 2^n.
+abbrev pub DirectoryIn : ℕ → Directory → Type 0
+DirectoryIn n uncached = Unit {0}
+DirectoryIn n (sharedBy m) = m < 2 ^ n
+DirectoryIn n (ownedBy o) = o < n
+
+abbrev pub LineIn : ℕ → Line → Type 0
+LineIn n absent = Unit {0}
+LineIn n (present d ws x) = DirectoryIn n x
+
+abbrev pub CauseIn : ℕ → Cause → Type 0
+CauseIn n (request r a) = r < n
+CauseIn n eviction = Unit {0}
+
+abbrev pub ClearingIn : ℕ → Clearing → Type 0
+ClearingIn n (clearForStore r) = r < n
+ClearingIn n clearForEviction = Unit {0}
+
+abbrev pub HomeIn : ℕ → Home → Type 0
+HomeIn n (idle x) = LineIn n x
+HomeIn n (awaitingLoad r a x) = (r < n) × LineIn n x
+HomeIn n (awaitingOwner d ws o c) = (o < n) × CauseIn n c
+HomeIn n (awaitingAcks d ws m u c) = (m < 2 ^ n) × (u < 2 ^ n) × ClearingIn n c
+HomeIn n (awaitingStore x) = LineIn n x
