@@ -8,8 +8,12 @@ ghost use lib.ListN.{length, getD};
 ghost use Rattle.protocol.specs.Parts.{load, store, evict, toTile};
 ghost use Rattle.words.specs.Blocks.{tileAt};
 ghost use Rattle.codec.specs.Same.{tileOk};
+ghost use Rattle.bench.specs.Post.{oneRoom, rooms, toldTile, tellOne, tellAll, canTake, firstFrom, choice, popped1, popped3};
 ghost use Rattle.bench.specs.Calls.{need, tilesOk, wellFormed, stepOn, answerOf, wordsAfter, refusal, tileCall};
+use home_steps::HomeStep;
 use tile_steps::TileStep;
+use words::HomeBlock;
+use words::Row;
 use words::TileBlock;
 
 // Refusal number, kind and value; on which queues messages were sent (0 none, 1 NoC1, 2 NoC2, 3 NoC3, 4 to memory, 5 from memory,
@@ -158,4 +162,103 @@ pub fn to_tile(w: &mut [u64], t: u64) -> Answer
     ensures words { λ _. ⌜ now (w .exit) ≡ wordsAfter (now (w .entry)) (stepOn (now (w .entry)) (toTile t)) ⌝ }
 {
     at_tile(w, 3, t, 0, 0)
+}
+
+fn one_room(w: &[u64], at: usize, i: u64, to: u64) -> bool
+    requires { ⌜ at + 84 ≤ length (now w) ⌝ }
+    ensures { λ r. ⌜ r ≡ oneRoom (now (w .entry)) at i to ⌝ }
+{
+    let in_it = bits::has(to, i);
+    let q = words::read_pair(w, at + 36);
+    if in_it { tile_steps::room(q) } else { true }
+}
+
+// Is there room on NoC2 of every tile of the mask?
+fn rooms(w: &[u64], n: u64, to: u64) -> bool
+    requires { ⌜ (need n ≤ length (now w)) × (n ≤ 64) ⌝ }
+    ensures { λ r. ⌜ r ≡ rooms true (now (w .entry)) 74 0 to n ⌝ }
+{
+    let mut ok = true;
+    let mut at: usize = 74;
+    let mut i: u64 = 0;
+    while i < n {
+        ok = ok & one_room(w, at, i, to);
+        at = at + 84;
+        i = i + 1;
+    }
+    ok
+}
+
+fn told_tile(m: Row, x: TileBlock) -> TileBlock
+    ensures { λ r. ⌜ r ≡ toldTile m x ⌝ }
+{
+    let q = tile_steps::push(x.noc2, m);
+    tile_steps::headed(x.head, x.noc1, q, x.noc3)
+}
+
+fn tell_one(w: &mut [u64], at: usize, i: u64, to: u64, m: Row)
+    requires { ⌜ at + 84 ≤ length (now w) ⌝ }
+    ensures { λ _. ⌜ now (w .exit) ≡ tellOne (now (w .entry)) at i to m ⌝ }
+{
+    let in_it = bits::has(to, i);
+    if in_it {
+        let x = words::read_tile(w, at);
+        words::write_tile(w, at, told_tile(m, x));
+    }
+}
+
+// Puts the message m on NoC2 of every tile of the mask.
+fn tell_all(w: &mut [u64], n: u64, to: u64, m: Row)
+    requires { ⌜ (need n ≤ length (now w)) × (n ≤ 64) ⌝ }
+    ensures { λ _. ⌜ now (w .exit) ≡ tellAll (now (w .entry)) 74 0 to m n ⌝ }
+{
+    let mut at: usize = 74;
+    let mut i: u64 = 0;
+    while i < n {
+        tell_one(w, at, i, to, m);
+        at = at + 84;
+        i = i + 1;
+    }
+}
+
+fn can_take(w: &[u64], k: u64, i: u64) -> bool
+    requires { ⌜ (need (i + 1) ≤ length (now w)) × (i < 64) ⌝ }
+    ensures { λ r. ⌜ r ≡ canTake (now (w .entry)) k i ⌝ }
+{
+    let mark = bits::has(k, i);
+    let at = 86 + 84 * (i as usize);
+    let front = w[at];
+    match front {
+        0 => false,
+        13 => mark,
+        _ => true,
+    }
+}
+
+// The first of n tiles from tile `from` on that may be taken; 64 for none.
+fn first_from(w: &[u64], k: u64, from: u64, n: u64) -> u64
+    requires { ⌜ (need (from + n) ≤ length (now w)) × (from + n ≤ 64) ⌝ }
+    ensures { λ r. ⌜ r ≡ firstFrom (now (w .entry)) k from n ⌝ }
+{
+    let mut i = from;
+    let mut left = n;
+    while 0 < left {
+        let here = can_take(w, k, i);
+        if here {
+            return i;
+        }
+        i = i + 1;
+        left = left - 1;
+    }
+    64
+}
+
+// Round robin: the first after the last taken, in circle order.
+fn choose(w: &[u64], k: u64, last: u64, n: u64) -> u64
+    requires { ⌜ (need n ≤ length (now w)) × (n ≤ 64) × (last < n) ⌝ }
+    ensures { λ r. ⌜ r ≡ choice (now (w .entry)) k last n ⌝ }
+{
+    let a = first_from(w, k, last + 1, n - (last + 1));
+    let b = first_from(w, k, 0, last + 1);
+    if a < 64 { a } else { b }
 }

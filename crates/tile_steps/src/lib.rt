@@ -71,7 +71,7 @@ fn pair(a: Row, b: Row) -> Pair
     Pair { a, b }
 }
 
-fn headed(h: Row, p: Pair, q: Pair, s: Pair) -> TileBlock
+pub fn headed(h: Row, p: Pair, q: Pair, s: Pair) -> TileBlock
     ensures { λ r. ⌜ r ≡ headed h p q s ⌝ }
 {
     TileBlock {

@@ -1,0 +1,56 @@
+-- A message put on NoC2 of every tile of a mask, and the round robin's search, on the words, as the code's loops go. That they are
+-- document 01's steps is proved (proofs/Posted.antt, proofs/Searched.antt); no public contract rests on this file alone.
+use Prim.Native.Nat.{ℕ, suc, _+_, _-_, _*_}
+use mathlib.Core.Bool.{Bool, cond, true, false, _&&_}
+use mathlib.Core.List.{List}
+use lib.Dec.{eqb, ltb}
+use lib.ListN.{getD}
+use Rattle.bits.specs.Mask.{has, add64}
+use Rattle.words.specs.declared.Row.{Row}
+use Rattle.words.specs.declared.TileBlock.{TileBlock}
+use Rattle.words.specs.Blocks.{rowAt, tileAt, tileWords, over}
+use Rattle.tile_steps.specs.Steps.{room, push, pop, headed}
+use Rattle.bench.specs.declared.Answer.{Answer}
+
+-- tile i, whose block is at place `at`, has room on NoC2 or is not in the mask
+unfoldable pub oneRoom : List ℕ → ℕ → ℕ → ℕ → Bool
+oneRoom l at i to = cond (has to i) (room (tileAt l at .noc2)) true
+
+-- a, and so for n tiles from tile i on
+unfoldable pub rooms : Bool → List ℕ → ℕ → ℕ → ℕ → ℕ → Bool
+rooms a l at i to ℕ.zero = a
+rooms a l at i to (suc n) = rooms (a && oneRoom l at i to) l (at + 84) (i + 1) to n
+
+-- a tile with m behind what is on its NoC2
+unfoldable pub toldTile : Row → TileBlock → TileBlock
+toldTile m x = headed (x .head) (x .noc1) (push (x .noc2) m) (x .noc3)
+
+unfoldable pub tellOne : List ℕ → ℕ → ℕ → ℕ → Row → List ℕ
+tellOne l at i to m = cond (has to i) (over l at (tileWords (toldTile m (tileAt l at)))) l
+
+unfoldable pub tellAll : List ℕ → ℕ → ℕ → ℕ → Row → ℕ → List ℕ
+tellAll l at i to m ℕ.zero = l
+tellAll l at i to m (suc n) = tellAll (tellOne l at i to m) (at + 84) (i + 1) to m n
+
+-- may the tile be taken, by its NoC1 front and its mark
+unfoldable pub mayTake : Bool → ℕ → Bool
+mayTake mark k = cond (eqb k 0) false (cond (eqb k 13) mark true)
+
+unfoldable pub canTake : List ℕ → ℕ → ℕ → Bool
+canTake l k i = mayTake (has k i) (getD l (86 + 84 * i) 0)
+
+-- the first of n tiles from tile i on that may be taken; 64 for none
+unfoldable pub firstFrom : List ℕ → ℕ → ℕ → ℕ → ℕ
+firstFrom l k i ℕ.zero = 64
+firstFrom l k i (suc n) = cond (canTake l k i) i (firstFrom l k (i + 1) n)
+
+-- after the last taken, then from tile 0 up to it
+unfoldable pub choice : List ℕ → ℕ → ℕ → ℕ → ℕ
+choice l k last n = cond (ltb (firstFrom l k (last + 1) (n - (last + 1))) 64) (firstFrom l k (last + 1) (n - (last + 1))) (firstFrom l k 0 (last + 1))
+
+-- a tile without the front of its NoC1, or of its NoC3
+unfoldable pub popped1 : TileBlock → TileBlock
+popped1 x = headed (x .head) (pop (x .noc1)) (x .noc2) (x .noc3)
+
+unfoldable pub popped3 : TileBlock → TileBlock
+popped3 x = headed (x .head) (x .noc1) (x .noc2) (pop (x .noc3))
