@@ -211,6 +211,7 @@ fn tell_one(w: &mut [u64], at: usize, i: u64, to: u64, m: Row)
 fn tell_all(w: &mut [u64], n: u64, to: u64, m: Row)
     requires { ⌜ (need n ≤ length (now w)) × (n ≤ 64) ⌝ }
     ensures { λ _. ⌜ now (w .exit) ≡ tellAll (now (w .entry)) 74 0 to m n ⌝ }
+    ensures full { λ _. ⌜ length (m .words) ≡ 8 ⌝ }
 {
     let mut at: usize = 74;
     let mut i: u64 = 0;

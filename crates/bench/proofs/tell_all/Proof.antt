@@ -1,3 +1,4 @@
+use borrow.Author.Needs.{needs}
 use Prim.Native.Nat.{_+_, _-_, _*_, _≤_}
 use mathlib.Core.Path.{_≡_, refl, ap, sym, _∙_}
 use mathlib.Core.Bool.{Bool, true, _&&_}
@@ -42,7 +43,7 @@ same-length : tie.Need-same-length Inv-loop μ-loop
 same-length c = c .before .loop .inv .3
 
 returns : tie.Need-returns Inv-loop μ-loop
-returns c = sym (tell-end (c .before .loop .w) (c .before .loop .at) (c .before .loop .i) (c .before .before .before .args .to) (c .before .before .before .args .m) (c .before .before .before .args .n) (c .loop-test .left)) ∙ c .before .loop .inv .0
+returns c = (sym (tell-end (c .before .loop .w) (c .before .loop .at) (c .before .loop .i) (c .before .before .before .args .to) (c .before .before .before .args .m) (c .before .before .before .args .n) (c .loop-test .left)) ∙ c .before .loop .inv .0, search needs)
 
 pub tell-all-spec : {M : Type 1} → statement M
 tell-all-spec =
