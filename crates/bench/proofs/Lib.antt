@@ -4,3 +4,4 @@ pub mod Decoded
 pub mod TileCalls
 pub mod Turns
 pub mod Posted
+pub mod Finished
