@@ -116,14 +116,14 @@ module _ (n : ℕ) (small : n ≤ 64) (B : HomeBlock) (s : HomeStep) (v : ℕ) (
     quietly ms h t k mem out back e is z y o =
         let to-none : s .to ≡ 0 = ap (λ (x : HomeStep). x .to) is ∙ z in
         let same : after ≡ over l 0 (homeWords (s .home)) = ap (λ (q : ℕ). tellAll (over l 0 (homeWords (s .home))) 74 0 q (s .forward) n) to-none ∙ none-told (over l 0 (homeWords (s .home))) 74 0 (s .forward) n in
-        record
-          { bench = benchOf h t k mem out back ts
-          ; ms = ms
-          ; by-rules = ap (sent (kindOf ms) v ms) e ∙ ap (λ (q : ℕ). accepted q v (benchOf h t k mem out back ts) ms) (sym (ap (λ (x : HomeStep). x .kind) is))
-          ; words = same ∙ encoded-as ts (over l 0 (homeWords (s .home))) h t k mem out back count (ap (λ (x : HomeStep). x .home) is) homed
-          ; on = o ∙ sym (ap (λ (x : HomeStep). x .sent) is)
-          ; to = y ∙ sym to-none
-          }
+        record {
+          bench = benchOf h t k mem out back ts;
+          ms = ms;
+          by-rules = ap (sent (kindOf ms) v ms) e ∙ ap (λ (q : ℕ). accepted q v (benchOf h t k mem out back ts) ms) (sym (ap (λ (x : HomeStep). x .kind) is));
+          words = same ∙ encoded-as ts (over l 0 (homeWords (s .home))) h t k mem out back count (ap (λ (x : HomeStep). x .home) is) homed;
+          on = o ∙ sym (ap (λ (x : HomeStep). x .sent) is);
+          to = y ∙ sym to-none;
+        }
 
     telling : (m : ℕ) (f : Forward) → 0 < m → m < 2 ^ n → (ms : List Message) → ms ≡ told n m f → (h : Home) (t k : ℕ) (mem : Words) (out : Queue ToMemory) (back : Queue FromMemory) → s ≡ encStep n B (went h t k mem out back ms) →
         allRoom ts 0 (s .to) n ≡ true → Finished s v (went h t k mem out back ms) ts r after
@@ -134,17 +134,17 @@ module _ (n : ℕ) (small : n ≤ 64) (B : HomeBlock) (s : HomeStep) (v : ℕ) (
         let row-is : s .forward ≡ encForward f = ap (λ (x : HomeStep). x .forward) e in
         let d = told-words (s .home) r m f (subst (λ (x : Row). length (x .words) ≡ 8) row-is eight) n 0 (over l 0 (homeWords (s .home))) ts homed (omega arith) (sym (ap (λ (z : ℕ). allRoom ts 0 z n) to-m) ∙ rm) in
         let same : after ≡ tellAll (over l 0 (homeWords (s .home))) 74 0 m (encForward f) n =
-            ap (λ (z : ℕ). tellAll (over l 0 (homeWords (s .home))) 74 0 z (s .forward) n) to-m ∙ ap (λ (z : Row). tellAll (over l 0 (homeWords (s .home))) 74 0 m z n) row-is in
-        record
-          { bench = benchOf h t k mem out back (d .tiles)
-          ; ms = ms
-          ; by-rules =
+        ap (λ (z : ℕ). tellAll (over l 0 (homeWords (s .home))) 74 0 z (s .forward) n) to-m ∙ ap (λ (z : Row). tellAll (over l 0 (homeWords (s .home))) 74 0 m z n) row-is in
+        record {
+          bench = benchOf h t k mem out back (d .tiles);
+          ms = ms;
+          by-rules =
               ap (sent (kindOf ms) v ms) (ap (λ (z : List Message). forwardAll z (some (benchOf h t k mem out back ts))) q ∙ forward-told f n m h t k mem out back ts ∙ ap (Option·map (λ (us : List Tile). benchOf h t k mem out back us)) (d .by-rules))
-              ∙ ap (λ (z : ℕ). accepted z v (benchOf h t k mem out back (d .tiles)) ms) (sym (ap (λ (x : HomeStep). x .kind) is))
-          ; words = same ∙ encoded-as (d .tiles) (tellAll (over l 0 (homeWords (s .home))) 74 0 m (encForward f) n) h t k mem out back (d .count ∙ count) (ap (λ (x : HomeStep). x .home) e) (d .laid)
-          ; on = ap sentOn q ∙ on-told f n m ∙ sym (ap sentNumber q) ∙ sym (ap (λ (x : HomeStep). x .sent) is)
-          ; to = ap sentTo q ∙ to-told f n m small b ∙ sym to-m
-          }
+              ∙ ap (λ (z : ℕ). accepted z v (benchOf h t k mem out back (d .tiles)) ms) (sym (ap (λ (x : HomeStep). x .kind) is));
+          words = same ∙ encoded-as (d .tiles) (tellAll (over l 0 (homeWords (s .home))) 74 0 m (encForward f) n) h t k mem out back (d .count ∙ count) (ap (λ (x : HomeStep). x .home) e) (d .laid);
+          on = ap sentOn q ∙ on-told f n m ∙ sym (ap sentNumber q) ∙ sym (ap (λ (x : HomeStep). x .sent) is);
+          to = ap sentTo q ∙ to-told f n m small b ∙ sym to-m;
+        }
 
     pub finished : (R : HomeResult) → Sends n R → s ≡ encStep n B R → s .refusal ≡ 0 → allRoom ts 0 (s .to) n ≡ true → Finished s v R ts r after
     unfolding encStep stop forwardAll forwardTo forwardOne targets sentTo sentOn sentNumber

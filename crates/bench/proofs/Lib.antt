@@ -5,3 +5,6 @@ pub mod TileCalls
 pub mod Turns
 pub mod Posted
 pub mod Finished
+pub mod Commits
+pub mod Searched
+pub mod HomeCalls

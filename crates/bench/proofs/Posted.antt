@@ -171,12 +171,12 @@ module _ (H : HomeBlock) (r : List ℕ) (to : ℕ) (f : Forward) (eight : length
   passed : (i j : ℕ) (l : List ℕ) (ts us : List Tile) → tellTiles to f i (suc j) ts ≡ tellTiles to f (suc i) j us → length us ≡ length ts →
       Told to f (suc i) j us H r (tellAll l (74 + 84 * suc i) (suc i) to (encForward f) j) → Told to f i (suc j) ts H r (tellAll l (74 + 84 * i + 84) (i + 1) to (encForward f) j)
   passed i j l ts us e n d =
-      record
-        { tiles = d .tiles
-        ; by-rules = e ∙ d .by-rules
-        ; laid = rw (next-place i, add-one i) (d .laid)
-        ; count = d .count ∙ n
-        }
+      record {
+        tiles = d .tiles;
+        by-rules = e ∙ d .by-rules;
+        laid = rw (next-place i, add-one i) (d .laid);
+        count = d .count ∙ n;
+      }
 
   pub told-words : (j i : ℕ) (l : List ℕ) (ts : List Tile) → Laid l H ts r → i + j ≤ length ts → allRoom ts i to j ≡ true → Told to f i j ts H r (tellAll l (74 + 84 * i) i to (encForward f) j)
   unfolding tellAll tellOne tellTiles allRoom andThen

@@ -3,14 +3,17 @@
 use Prim.Native.Nat.{ℕ, suc, _+_, _-_, _*_}
 use mathlib.Core.Bool.{Bool, cond, true, false, _&&_}
 use mathlib.Core.List.{List}
+use mathlib.Core.Path.{_≡_}
 use lib.Dec.{eqb, ltb}
-use lib.ListN.{getD}
+use lib.ListN.{length, getD}
 use Rattle.bits.specs.Mask.{has, add64}
 use Rattle.words.specs.declared.Row.{Row}
 use Rattle.words.specs.declared.TileBlock.{TileBlock}
-use Rattle.words.specs.Blocks.{rowAt, tileAt, tileWords, over}
+use Rattle.words.specs.Blocks.{tileAt, tileWords, homeWords, over, HomeFull}
 use Rattle.tile_steps.specs.Steps.{room, push, pop, headed}
+use Rattle.home_steps.specs.declared.HomeStep.{HomeStep}
 use Rattle.bench.specs.declared.Answer.{Answer}
+use Rattle.bench.specs.Calls.{refusal}
 
 -- tile i, whose block is at place `at`, has room on NoC2 or is not in the mask
 unfoldable pub oneRoom : List ℕ → ℕ → ℕ → ℕ → Bool
@@ -54,3 +57,15 @@ popped1 x = headed (x .head) (pop (x .noc1)) (x .noc2) (x .noc3)
 
 unfoldable pub popped3 : TileBlock → TileBlock
 popped3 x = headed (x .head) (x .noc1) (x .noc2) (pop (x .noc3))
+
+-- the answer of a home step, with value v
+abbrev pub homeAnswer : HomeStep → ℕ → Answer
+homeAnswer s v = record { refusal = 0; kind = s .kind; value = v; sent = s .sent; tiles = s .to }
+
+-- A home step s committed to words l of n tiles, with k the words that it is written over, a the answer and m the words after it:
+-- refused, refused 9 for want of room, or done; P is what else is known where it is done.
+pub record Committed (l k : List ℕ) (n v : ℕ) (s : HomeStep) (P : Type 0) (a : Answer) (m : List ℕ) : Type 0 where
+  pub stops : (s .refusal ≡ 0 → ⊥) → (a ≡ refusal (s .refusal)) × (m ≡ l)
+  pub no-room : s .refusal ≡ 0 → rooms true l 74 0 (s .to) n ≡ false → (a ≡ refusal 9) × (m ≡ l)
+  pub done : s .refusal ≡ 0 → rooms true l 74 0 (s .to) n ≡ true →
+      (a ≡ homeAnswer s v) × (m ≡ tellAll (over k 0 (homeWords (s .home))) 74 0 (s .to) (s .forward) n) × HomeFull (s .home) × (length (s .forward .words) ≡ 8) × P

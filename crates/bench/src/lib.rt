@@ -6,9 +6,9 @@ ghost use Rattle.bits.specs.Mask.{add64};
 ghost use Prim.Native.Nat.{_+_, _*_, _≤_, _<_};
 ghost use lib.ListN.{length, getD};
 ghost use Rattle.protocol.specs.Parts.{load, store, evict, toTile};
-ghost use Rattle.words.specs.Blocks.{tileAt};
+ghost use Rattle.words.specs.Blocks.{tileAt, over, tileWords, homeWords, TileFull, HomeFull};
 ghost use Rattle.codec.specs.Same.{tileOk};
-ghost use Rattle.bench.specs.Post.{oneRoom, rooms, toldTile, tellOne, tellAll, canTake, firstFrom, choice, popped1, popped3};
+ghost use Rattle.bench.specs.Post.{oneRoom, rooms, toldTile, tellOne, tellAll, canTake, firstFrom, choice, popped1, popped3, homeAnswer, Committed};
 ghost use Rattle.bench.specs.Calls.{need, tilesOk, wellFormed, stepOn, answerOf, wordsAfter, refusal, tileCall};
 use home_steps::HomeStep;
 use tile_steps::TileStep;
@@ -262,4 +262,64 @@ fn choose(w: &[u64], k: u64, last: u64, n: u64) -> u64
     let a = first_from(w, k, last + 1, n - (last + 1));
     let b = first_from(w, k, 0, last + 1);
     if a < 64 { a } else { b }
+}
+
+fn home_answer(s: HomeStep, v: u64) -> Answer
+    ensures { λ r. ⌜ r ≡ homeAnswer s v ⌝ }
+{
+    Answer {
+        refusal: 0,
+        kind: s.kind,
+        value: v,
+        sent: s.sent,
+        tiles: s.to,
+    }
+}
+
+// Writes the home's new block and puts the step's message on its tiles' queues.
+fn finish(w: &mut [u64], n: u64, s: HomeStep)
+    requires { ⌜ (need n ≤ length (now w)) × (n ≤ 64) ⌝ }
+    ensures { λ _. ⌜ now (w .exit) ≡ tellAll (over (now (w .entry)) 0 (homeWords (s .home))) 74 0 (s .to) (s .forward) n ⌝ }
+    ensures home { λ _. ⌜ HomeFull (s .home) ⌝ }
+    ensures row { λ _. ⌜ length (s .forward .words) ≡ 8 ⌝ }
+{
+    words::write_home(w, s.home);
+    tell_all(w, n, s.to, s.forward);
+}
+
+// A home step that concerns no tile's own queues.
+fn commit(w: &mut [u64], n: u64, v: u64, s: HomeStep) -> Answer
+    requires { ⌜ (need n ≤ length (now w)) × (n ≤ 64) ⌝ }
+    ensures { λ r. ⌜ Committed (now (w .entry)) (now (w .entry)) n v s (Unit {0}) r (now (w .exit)) ⌝ }
+{
+    if s.refusal == 0 {
+        let free = rooms(w, n, s.to);
+        if free {
+            finish(w, n, s);
+            home_answer(s, v)
+        } else {
+            refused(9)
+        }
+    } else {
+        refused(s.refusal)
+    }
+}
+
+// A home step that takes a message off a queue of the tile at place `at`, which leaves its block as x.
+fn commit_with(w: &mut [u64], n: u64, v: u64, s: HomeStep, at: usize, x: TileBlock) -> Answer
+    requires { ⌜ (need n ≤ length (now w)) × (n ≤ 64) × (at + 84 ≤ length (now w)) ⌝ }
+    ensures { λ r. ⌜ Committed (now (w .entry)) (over (now (w .entry)) at (tileWords x)) n v s (TileFull x) r (now (w .exit)) ⌝ }
+{
+    if s.refusal == 0 {
+        let free = rooms(w, n, s.to);
+        if free {
+            words::write_tile(w, at, x);
+            finish(w, n, s);
+            home_answer(s, v)
+        } else {
+            refused(9)
+        }
+    } else {
+        refused(s.refusal)
+    }
 }
