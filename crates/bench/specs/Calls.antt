@@ -10,7 +10,7 @@ use Rattle.codec.specs.Encode.{encode}
 use Rattle.codec.specs.Decode.{decoded}
 use Rattle.codec.specs.Same.{tileOk, homeOk}
 use Rattle.codec.specs.Sent.{sentOn, sentTo}
-use Rattle.protocol.specs.Parts.{Bench, Call, load, store, evict, toTile, Result, refused, accepted}
+use Rattle.protocol.specs.Parts.{Bench, Call, load, store, evict, toTile, memoryStep, memoryAck, homeEviction, Result, refused, accepted}
 use Rattle.protocol.specs.Bench.{step}
 use Rattle.bench.specs.declared.Answer.{Answer}
 
@@ -51,3 +51,7 @@ wordsAfter l (accepted k v b ms) = encode b ++ drop (need (getD l 0 0)) l
 -- the calls at one tile, by number: 0 load, 1 store, 2 evict, else delivery to the tile
 unfoldable pub tileCall : ℕ → ℕ → ℕ → ℕ → Call
 tileCall c t w v = cond (eqb c 0) (load t w) (cond (eqb c 1) (store t w v) (cond (eqb c 2) (evict t) (toTile t)))
+
+-- the calls at the home alone, by number: 0 memory step, 1 memory ack, else home eviction
+unfoldable pub homeCall : ℕ → Call
+homeCall c = cond (eqb c 0) memoryStep (cond (eqb c 1) memoryAck homeEviction)

@@ -11,7 +11,9 @@ use Rattle.words.specs.declared.Row.{Row}
 use Rattle.words.specs.declared.TileBlock.{TileBlock}
 use Rattle.words.specs.Blocks.{tileAt, tileWords, homeWords, over, HomeFull}
 use Rattle.tile_steps.specs.Steps.{room, push, pop, headed}
+use Rattle.words.specs.declared.HomeBlock.{HomeBlock}
 use Rattle.home_steps.specs.declared.HomeStep.{HomeStep}
+use Rattle.home_steps.specs.Numbers.{memoryStep, memoryAck, evictLine}
 use Rattle.bench.specs.declared.Answer.{Answer}
 use Rattle.bench.specs.Calls.{refusal}
 
@@ -69,3 +71,7 @@ pub record Committed (l k : List ℕ) (n v : ℕ) (s : HomeStep) (P : Type 0) (a
   pub no-room : s .refusal ≡ 0 → rooms true l 74 0 (s .to) n ≡ false → (a ≡ refusal 9) × (m ≡ l)
   pub done : s .refusal ≡ 0 → rooms true l 74 0 (s .to) n ≡ true →
       (a ≡ homeAnswer s v) × (m ≡ tellAll (over k 0 (homeWords (s .home))) 74 0 (s .to) (s .forward) n) × HomeFull (s .home) × (length (s .forward .words) ≡ 8) × P
+
+-- the calls at the home alone, by number: 0 memory step, 1 memory ack, else home eviction
+unfoldable pub homeStepOn : ℕ → HomeBlock → HomeStep
+homeStepOn c x = cond (eqb c 0) (memoryStep x) (cond (eqb c 1) (memoryAck x) (evictLine x))
