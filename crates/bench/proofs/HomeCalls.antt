@@ -272,8 +272,8 @@ module _ (l : List ℕ) (h : wellFormed l ≡ true) where
         let y : Tile = popNoc3 x in
         let e : b ≡ encTile y = bs ∙ ap popped3 tile-block ∙ pop3 x in
         let numbers-are : s ≡ encStep n B (acceptedHome t (front (noc3 x)) home last marks memory out back) =
-            is ∙ ap (λ (z : TileBlock). numbers.accept H t (z .noc3 .a)) tile-block ∙ ap (numbers.accept H t) (front3 x) ∙ ap (λ (z : HomeBlock). numbers.accept z t (encFront encReply (front (noc3 x)))) block
-            ∙ accept-is n t (found l h .most) below (front (noc3 x)) home in-range last marks memory out back in
+        is ∙ ap (λ (z : TileBlock). numbers.accept H t (z .noc3 .a)) tile-block ∙ ap (numbers.accept H t) (front3 x) ∙ ap (λ (z : HomeBlock). numbers.accept z t (encFront encReply (front (noc3 x)))) block
+        ∙ accept-is n t (found l h .most) below (front (noc3 x)) home in-range last marks memory out back in
         let by-step : step (fromTile t) (decoded l) ≡ spread 0 (acceptedHome t (front (noc3 x)) home last marks memory out back) (set ts t y) = from-step ∙ accept-spread t (front (noc3 x)) home last marks memory out back (set ts t y) in
         committed l (over l place (tileWords b)) (fromTile t) 0 s (TileFull b) a m h (acceptedHome t (front (noc3 x)) home last marks memory out back) B (set ts t y) (length-set ts t y ∙ tiles-counted) (laid-with y b e)
         (accept-sends n t (front (noc3 x)) home in-range last marks memory out back) numbers-are by-step (room-as (s .to) ∙ sym (room-with y (same2-3 x) (s .to) n 0)) made
@@ -300,10 +300,41 @@ module _ (l : List ℕ) (h : wellFormed l ≡ true) where
           let y : Tile = popNoc1 x in
           let e : b ≡ encTile y = bs ∙ ap popped1 tile-block ∙ pop1 x in
           let numbers-are : s ≡ encStep n (encHome n (idle line) last marks memory out back) (takenHome n t (front (noc1 x)) line marks memory out back) =
-              is ∙ ap (λ (z : TileBlock). numbers.take H t (z .noc1 .a)) tile-block ∙ ap (numbers.take H t) (front1 x) ∙ ap (λ (z : HomeBlock). numbers.take z t (encFront encRequest (front (noc1 x)))) block-idle
-              ∙ take-is n t (found l h .most) below (front (noc1 x)) line (line-in n (H .line) some-tile) last marks memory out back in
+          is ∙ ap (λ (z : TileBlock). numbers.take H t (z .noc1 .a)) tile-block ∙ ap (numbers.take H t) (front1 x) ∙ ap (λ (z : HomeBlock). numbers.take z t (encFront encRequest (front (noc1 x)))) block-idle
+          ∙ take-is n t (found l h .most) below (front (noc1 x)) line (line-in n (H .line) some-tile) last marks memory out back in
           let cnt : length (set ts t y) ≡ n = length-set ts t y ∙ tiles-counted in
           let by-step : step taking (decoded l) ≡ spread t (takenHome n t (front (noc1 x)) line marks memory out back) (set ts t y) =
-              take-step ∙ take-spread t (front (noc1 x)) line marks memory out back (set ts t y) ∙ ap (λ (z : ℕ). spread t (takenHome z t (front (noc1 x)) line marks memory out back) (set ts t y)) cnt in
+          take-step ∙ take-spread t (front (noc1 x)) line marks memory out back (set ts t y) ∙ ap (λ (z : ℕ). spread t (takenHome z t (front (noc1 x)) line marks memory out back) (set ts t y)) cnt in
           committed l (over l place (tileWords b)) taking t s (TileFull b) a m h (takenHome n t (front (noc1 x)) line marks memory out back) (encHome n (idle line) last marks memory out back) (set ts t y) cnt (laid-with y b e)
           (take-sends n t below (front (noc1 x)) line (line-in n (H .line) some-tile) marks memory out back) numbers-are by-step (room-as (s .to) ∙ sym (room-with y (same2-1 x) (s .to) n 0)) made
+
+-- the same, as the code has them: with the blocks that it read
+module _ (l : List ℕ) (h : wellFormed l ≡ true) (hb : HomeBlock) (eh : hb ≡ homeAt l) where
+  pub last-small : hb .control .n0 < getD l 0 0
+  last-small = rw eh (last-below l h)
+
+  module _ (t : ℕ) (tb : TileBlock) (et : tb ≡ blocks.tileAt l (74 + 84 * t)) (s : HomeStep) (b : TileBlock) (a : Answer) (m : List ℕ) where
+    pub from-call : t < getD l 0 0 → s ≡ numbers.accept hb t (tb .noc3 .a) → b ≡ popped3 tb → Committed l (over l (74 + 84 * t) (tileWords b)) (getD l 0 0) 0 s (TileFull b) a m → Meets l (stepOn l (fromTile t)) a m
+    from-call below is bs made =
+        from-done l h t below s (is ∙ ap (λ (z : TileBlock). numbers.accept hb t (z .noc3 .a)) et ∙ ap (λ (z : HomeBlock). numbers.accept z t (blocks.tileAt l (74 + 84 * t) .noc3 .a)) eh) b (bs ∙ ap popped3 et) a m made
+
+    pub take-call : hb .phase ≡ 0 → t ≡ choice l (hb .control .n1) (hb .control .n0) (getD l 0 0) → t < 64 → s ≡ numbers.take hb t (tb .noc1 .a) → b ≡ popped1 tb →
+        Committed l (over l (74 + 84 * t) (tileWords b)) (getD l 0 0) t s (TileFull b) a m → Meets l (stepOn l taking) a m
+    take-call z e q is bs made =
+        let e′ : t ≡ choice l (homeAt l .control .n1) (homeAt l .control .n0) (getD l 0 0) = e ∙ ap (λ (y : HomeBlock). choice l (y .control .n1) (y .control .n0) (getD l 0 0)) eh in
+        let below : t < getD l 0 0 = subst (λ (y : ℕ). y < getD l 0 0) (sym e′) (chosen-below l h (subst (λ (y : ℕ). y < 64) e′ q)) in
+        take-done l h t below (sym (ap (λ (y : HomeBlock). y .phase) eh) ∙ z) e′ s (is ∙ ap (λ (y : TileBlock). numbers.take hb t (y .noc1 .a)) et ∙ ap (λ (y : HomeBlock). numbers.take y t (blocks.tileAt l (74 + 84 * t) .noc1 .a)) eh) b
+        (bs ∙ ap popped1 et) a m made
+
+  pub chosen-small : (t : ℕ) → t ≡ choice l (hb .control .n1) (hb .control .n0) (getD l 0 0) → t < 64 → t < getD l 0 0
+  chosen-small t e q =
+      let e′ : t ≡ choice l (homeAt l .control .n1) (homeAt l .control .n0) (getD l 0 0) = e ∙ ap (λ (y : HomeBlock). choice l (y .control .n1) (y .control .n0) (getD l 0 0)) eh in
+      subst (λ (y : ℕ). y < getD l 0 0) (sym e′) (chosen-below l h (subst (λ (y : ℕ). y < 64) e′ q))
+
+  pub nobody-call : hb .phase ≡ 0 → (t : ℕ) → t ≡ choice l (hb .control .n1) (hb .control .n0) (getD l 0 0) → 64 ≤ t → Meets l (stepOn l taking) (refusal 7) l
+  nobody-call z t e q =
+      let e′ : t ≡ choice l (homeAt l .control .n1) (homeAt l .control .n0) (getD l 0 0) = e ∙ ap (λ (y : HomeBlock). choice l (y .control .n1) (y .control .n0) (getD l 0 0)) eh in
+      none-taken l h (sym (ap (λ (y : HomeBlock). y .phase) eh) ∙ z) (subst (λ (y : ℕ). 64 ≤ y) e′ q)
+
+  pub busy-call : (hb .phase ≡ 0 → ⊥) → Meets l (stepOn l taking) (refusal 6) l
+  busy-call wrong = not-idle l h (λ z. wrong (ap (λ (y : HomeBlock). y .phase) eh ∙ z))

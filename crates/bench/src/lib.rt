@@ -5,11 +5,11 @@ ghost use lib.Dec.{eqb};
 ghost use Rattle.bits.specs.Mask.{add64};
 ghost use Prim.Native.Nat.{_+_, _*_, _≤_, _<_};
 ghost use lib.ListN.{length, getD};
-ghost use Rattle.protocol.specs.Parts.{load, store, evict, toTile};
+ghost use Rattle.protocol.specs.Parts.{load, store, evict, taking, toTile, fromTile, memoryStep, memoryAck, homeEviction};
 ghost use Rattle.words.specs.Blocks.{tileAt, over, tileWords, homeWords, TileFull, HomeFull};
 ghost use Rattle.codec.specs.Same.{tileOk};
-ghost use Rattle.bench.specs.Post.{oneRoom, rooms, toldTile, tellOne, tellAll, canTake, firstFrom, choice, popped1, popped3, homeAnswer, Committed};
-ghost use Rattle.bench.specs.Calls.{need, tilesOk, wellFormed, stepOn, answerOf, wordsAfter, refusal, tileCall};
+ghost use Rattle.bench.specs.Post.{oneRoom, rooms, toldTile, tellOne, tellAll, canTake, firstFrom, choice, popped1, popped3, homeAnswer, Committed, homeStepOn};
+ghost use Rattle.bench.specs.Calls.{need, tilesOk, wellFormed, stepOn, answerOf, wordsAfter, refusal, tileCall, homeCall};
 use home_steps::HomeStep;
 use tile_steps::TileStep;
 use words::HomeBlock;
@@ -321,5 +321,120 @@ fn commit_with(w: &mut [u64], n: u64, v: u64, s: HomeStep, at: usize, x: TileBlo
         }
     } else {
         refused(s.refusal)
+    }
+}
+
+fn home_step(c: u64, x: HomeBlock) -> HomeStep
+    ensures { λ r. ⌜ r ≡ homeStepOn c x ⌝ }
+{
+    match c {
+        0 => home_steps::memory_step(x),
+        1 => home_steps::memory_ack(x),
+        _ => home_steps::evict_line(x),
+    }
+}
+
+// One of the calls at the home alone: 0 memory step, 1 memory ack, else home eviction.
+fn at_home(w: &mut [u64], c: u64) -> Answer
+    ensures answer { λ r. ⌜ r ≡ answerOf (stepOn (now (w .entry)) (homeCall c)) ⌝ }
+    ensures words { λ _. ⌜ now (w .exit) ≡ wordsAfter (now (w .entry)) (stepOn (now (w .entry)) (homeCall c)) ⌝ }
+{
+    let ok = well_formed(w);
+    if ok {
+        let n = w[0];
+        let x = words::read_home(w);
+        let s = home_step(c, x);
+        commit(w, n, 0, s)
+    } else {
+        refused(1)
+    }
+}
+
+pub fn memory_step(w: &mut [u64]) -> Answer
+    ensures answer { λ r. ⌜ r ≡ answerOf (stepOn (now (w .entry)) memoryStep) ⌝ }
+    ensures words { λ _. ⌜ now (w .exit) ≡ wordsAfter (now (w .entry)) (stepOn (now (w .entry)) memoryStep) ⌝ }
+{
+    at_home(w, 0)
+}
+
+pub fn memory_ack(w: &mut [u64]) -> Answer
+    ensures answer { λ r. ⌜ r ≡ answerOf (stepOn (now (w .entry)) memoryAck) ⌝ }
+    ensures words { λ _. ⌜ now (w .exit) ≡ wordsAfter (now (w .entry)) (stepOn (now (w .entry)) memoryAck) ⌝ }
+{
+    at_home(w, 1)
+}
+
+pub fn home_eviction(w: &mut [u64]) -> Answer
+    ensures answer { λ r. ⌜ r ≡ answerOf (stepOn (now (w .entry)) homeEviction) ⌝ }
+    ensures words { λ _. ⌜ now (w .exit) ≡ wordsAfter (now (w .entry)) (stepOn (now (w .entry)) homeEviction) ⌝ }
+{
+    at_home(w, 2)
+}
+
+fn popped3(x: TileBlock) -> TileBlock
+    ensures { λ r. ⌜ r ≡ popped3 x ⌝ }
+{
+    let q = tile_steps::pop(x.noc3);
+    tile_steps::headed(x.head, x.noc1, x.noc2, q)
+}
+
+fn popped1(x: TileBlock) -> TileBlock
+    ensures { λ r. ⌜ r ≡ popped1 x ⌝ }
+{
+    let q = tile_steps::pop(x.noc1);
+    tile_steps::headed(x.head, q, x.noc2, x.noc3)
+}
+
+// Delivery from tile t, of the front message of its NoC3 queue.
+pub fn from_tile(w: &mut [u64], t: u64) -> Answer
+    ensures answer { λ r. ⌜ r ≡ answerOf (stepOn (now (w .entry)) (fromTile t)) ⌝ }
+    ensures words { λ _. ⌜ now (w .exit) ≡ wordsAfter (now (w .entry)) (stepOn (now (w .entry)) (fromTile t)) ⌝ }
+{
+    let ok = well_formed(w);
+    if ok {
+        let n = w[0];
+        if t < n {
+            let at = 74 + 84 * (t as usize);
+            let h = words::read_home(w);
+            let x = words::read_tile(w, at);
+            let q = x.noc3;
+            let s = home_steps::accept(h, t, q.a);
+            let y = popped3(x);
+            commit_with(w, n, 0, s, at, y)
+        } else {
+            refused(2)
+        }
+    } else {
+        refused(1)
+    }
+}
+
+// Arbitration (01's taking): the next tile in circle order whose NoC1 front is a request, or a guard with its mark set.
+pub fn taking(w: &mut [u64]) -> Answer
+    ensures answer { λ r. ⌜ r ≡ answerOf (stepOn (now (w .entry)) taking) ⌝ }
+    ensures words { λ _. ⌜ now (w .exit) ≡ wordsAfter (now (w .entry)) (stepOn (now (w .entry)) taking) ⌝ }
+{
+    let ok = well_formed(w);
+    if ok {
+        let n = w[0];
+        let h = words::read_home(w);
+        if h.phase == 0 {
+            let k = h.control;
+            let t = choose(w, k.n1, k.n0, n);
+            if t < 64 {
+                let at = 74 + 84 * (t as usize);
+                let x = words::read_tile(w, at);
+                let q = x.noc1;
+                let s = home_steps::take(h, t, q.a);
+                let y = popped1(x);
+                commit_with(w, n, t, s, at, y)
+            } else {
+                refused(7)
+            }
+        } else {
+            refused(6)
+        }
+    } else {
+        refused(1)
     }
 }
