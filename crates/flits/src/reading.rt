@@ -39,20 +39,18 @@ fn read_refusal(row: Row, h: Header, count: u64, flit1: u64, flit2: u64, flit3: 
 {
     let length = bits::cut(flit1, 22, 8);
     let extra = header_extra(row.three);
-    let from16 = unless(
-        flit_rules::rules::fields_allowed(row, extra < length, h),
-        16,
-        0,
-    );
-    let from15 = unless(
-        flit_rules::rules::reserved_clear(row, flit1, flit2, flit3),
-        15,
-        from16,
-    );
-    let from14 = unless(flit_rules::rules::ports_listed(row, h), 14, from15);
-    let from13 = unless(length < count, 13, from14);
-    let from12 = unless(flit_rules::rules::length_allowed(row, length), 12, from13);
-    let from11 = unless(flit_rules::rules::in_table(row), 11, from12);
+    let known = flit_rules::rules::in_table(row);
+    let long = flit_rules::rules::length_allowed(row, length);
+    let ports = flit_rules::rules::ports_listed(row, h);
+    let clear = flit_rules::rules::reserved_clear(row, flit1, flit2, flit3);
+    let allowed = flit_rules::rules::fields_allowed(row, extra < length, h);
+    let whole = length < count;
+    let from16 = unless(allowed, 16, 0);
+    let from15 = unless(clear, 15, from16);
+    let from14 = unless(ports, 14, from15);
+    let from13 = unless(whole, 13, from14);
+    let from12 = unless(long, 12, from13);
+    let from11 = unless(known, 11, from12);
     unless(0 < count, 10, from11)
 }
 

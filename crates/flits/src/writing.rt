@@ -25,15 +25,16 @@ fn write_refusal(row: Row, h: Header, count: usize, room: usize, at: usize) -> u
 {
     let length = header_extra(row.three) + count as u64;
     let n = length + 1;
-    let from17 = unless(fits_at(room, at, n as usize), 17, 0);
-    let from16 = unless(
-        flit_rules::rules::fields_allowed(row, 0 < count, h),
-        16,
-        from17,
-    );
-    let from14 = unless(flit_rules::rules::ports_listed(row, h), 14, from16);
-    let from12 = unless(flit_rules::rules::length_allowed(row, length), 12, from14);
-    unless(flit_rules::rules::in_table(row), 11, from12)
+    let known = flit_rules::rules::in_table(row);
+    let long = flit_rules::rules::length_allowed(row, length);
+    let ports = flit_rules::rules::ports_listed(row, h);
+    let allowed = flit_rules::rules::fields_allowed(row, 0 < count, h);
+    let inside = fits_at(room, at, n as usize);
+    let from17 = unless(inside, 17, 0);
+    let from16 = unless(allowed, 16, from17);
+    let from14 = unless(ports, 14, from16);
+    let from12 = unless(long, 12, from14);
+    unless(known, 11, from12)
 }
 
 // The header flits, at the front of a part.
