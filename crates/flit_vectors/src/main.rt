@@ -4,8 +4,8 @@
 //     w FIELD.. (18) ROOM PLACE WORD..              writes a message into a buffer of ROOM flits, at most 16, all EEEEEEEEEEEEEEEE
 //     k FLIT..                                      walks a recording
 // Any other line is a remark.
-use flit_fields::Header;
-use flit_fields::Node;
+use flit_words::Header;
+use flit_words::Node;
 use libc::STDOUT_FILENO;
 
 // The line read so far: its first byte, the numbers that are whole, and the one that is being read.

@@ -8,9 +8,9 @@ use lib.Dec.{eqb, leb}
 use lib.ListN.{length, getD, take, drop}
 use lib.Seq.{drop-at, length-take-le}
 use borrow.Author.Tests.{eq-eqb, ne-eqb, leb-true}
-use Rattle.flit_fields.specs.declared.Header.{Header}
-use Rattle.flit_fields.specs.Words.{headerOf}
-use Rattle.flit_fields.specs.Table.{rowOf, extra}
+use Rattle.flit_words.specs.declared.Header.{Header}
+use Rattle.flit_words.specs.Words.{headerOf}
+use Rattle.flit_rules.specs.Table.{rowOf, extra}
 use Rattle.flits.specs.declared.Read.{Read}
 use Rattle.flits.specs.declared.Written.{Written}
 use Rattle.flits.specs.Reading.{rowAt, headerAt, readRefusal, answer, readOf, dataOf}

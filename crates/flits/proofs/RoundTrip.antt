@@ -15,13 +15,13 @@ use lib.Dec.{ltb, leb, lit<}
 use lib.ListN.{length, getD, take, drop, length-append, List·getD-append}
 use lib.Seq.{take-add, take-at, drop-at}
 use borrow.Author.Tests.{lt-ltb, le-ltb, ltb-true, ltb-false}
-use Rattle.flit_fields.specs.declared.Header.{Header}
-use Rattle.flit_fields.specs.declared.Row.{Row}
-use Rattle.flit_fields.specs.Words.{lengthOf, opcodeOf, headerOf, flit1Of, flit2Of, flit3Of}
-use Rattle.flit_fields.specs.Table.{rowOf, extra}
-use Rattle.flit_fields.proofs.TableLaws.{row-lengths}
-use Rattle.flit_fields.proofs.HeaderLaws.{HeaderFits, header-flits, length-flits, opcode-flits, flit1-header, flit2-header, flit3-header}
-use Rattle.flit_fields.proofs.RuleLaws.{reserved-zero, header-fits, flit2-none, flit3-none, written-clear}
+use Rattle.flit_words.specs.declared.Header.{Header}
+use Rattle.flit_rules.specs.declared.Row.{Row}
+use Rattle.flit_words.specs.Words.{lengthOf, opcodeOf, headerOf, flit1Of, flit2Of, flit3Of}
+use Rattle.flit_rules.specs.Table.{rowOf, extra}
+use Rattle.flit_rules.proofs.TableLaws.{row-lengths}
+use Rattle.flit_words.proofs.HeaderLaws.{HeaderFits, header-flits, length-flits, opcode-flits, flit1-header, flit2-header, flit3-header}
+use Rattle.flit_rules.proofs.RuleLaws.{reserved-zero, header-fits, flit2-none, flit3-none, written-clear}
 use Rattle.flits.specs.Reading.{lowest, flit1, rowAt, flit2, flit3, headerAt, readRefusal, accepted, readOf, dataOf}
 use Rattle.flits.specs.Writing.{refusals, writeRefusal, headerFlits, flitsOf}
 use Rattle.flits.specs.Reading as R

@@ -14,10 +14,10 @@ use borrow.Rule.Slice.PartMut.{putMid}
 use Rattle.flits.specs.Writing.{over, headerFlits, refusals, writeRefusal, flitsOf, writtenOf, bufferOf}
 use Rattle.flits.specs.Reading.{lowest}
 use Rattle.flits.proofs.ReadLaws.{holds, rest-part}
-use Rattle.flit_fields.specs.declared.Row.{Row}
-use Rattle.flit_fields.specs.Table.{rowOf, extra}
-use Rattle.flit_fields.specs.declared.Header.{Header}
-use Rattle.flit_fields.specs.Words.{flit1Of, flit2Of, flit3Of}
+use Rattle.flit_rules.specs.declared.Row.{Row}
+use Rattle.flit_rules.specs.Table.{rowOf, extra}
+use Rattle.flit_words.specs.declared.Header.{Header}
+use Rattle.flit_words.specs.Words.{flit1Of, flit2Of, flit3Of}
 
 -- the room test, without a sum that could wrap
 pub room-test : (room at n : ℕ) → at ≤ room → leb n (room - at) ≡ leb (at + n) room

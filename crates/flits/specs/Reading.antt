@@ -4,12 +4,12 @@ use mathlib.Core.List.{List, [], _∷_}
 use Prim.Native.Nat.{ℕ, _+_, _-_}
 use lib.Dec.{eqb, ltb}
 use lib.ListN.{length, getD, take, drop}
-use Rattle.flit_fields.specs.declared.Node.{Node}
-use Rattle.flit_fields.specs.declared.Header.{Header}
-use Rattle.flit_fields.specs.declared.Row.{Row}
-use Rattle.flit_fields.specs.Words.{opcodeOf, lengthOf, headerOf}
-use Rattle.flit_fields.specs.Table.{rowOf, extra}
-use Rattle.flit_fields.specs.Rules.{known, lengthAllowed, portsListed, reservedClear, allowed}
+use Rattle.flit_words.specs.declared.Node.{Node}
+use Rattle.flit_words.specs.declared.Header.{Header}
+use Rattle.flit_rules.specs.declared.Row.{Row}
+use Rattle.flit_words.specs.Words.{opcodeOf, lengthOf, headerOf}
+use Rattle.flit_rules.specs.Table.{rowOf, extra}
+use Rattle.flit_rules.specs.Rules.{known, lengthAllowed, portsListed, reservedClear, allowed}
 use Rattle.flits.specs.declared.Read.{Read}
 
 -- refusal numbers with their tests, in rising order: the number of the first test that fails, 0 where all hold

@@ -4,8 +4,8 @@ use mathlib.Core.List.{List}
 use Prim.Native.Nat.{ℕ, _+_}
 use lib.Dec.{eqb, leb}
 use lib.ListN.{length, take}
-use Rattle.flit_fields.specs.declared.Header.{Header}
-use Rattle.flit_fields.specs.Table.{rowOf, extra}
+use Rattle.flit_words.specs.declared.Header.{Header}
+use Rattle.flit_rules.specs.Table.{rowOf, extra}
 use Rattle.flits.specs.declared.Read.{Read}
 use Rattle.flits.specs.declared.Written.{Written}
 use Rattle.flits.specs.Reading.{readOf, readRefusal, accepted, refused}

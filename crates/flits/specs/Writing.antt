@@ -4,11 +4,11 @@ use mathlib.Core.List.{List, [], _∷_, _++_}
 use Prim.Native.Nat.{ℕ, _+_}
 use lib.Dec.{eqb, ltb, leb}
 use lib.ListN.{length, take, drop}
-use Rattle.flit_fields.specs.declared.Header.{Header}
-use Rattle.flit_fields.specs.declared.Row.{Row}
-use Rattle.flit_fields.specs.Words.{flit1Of, flit2Of, flit3Of}
-use Rattle.flit_fields.specs.Table.{rowOf, extra}
-use Rattle.flit_fields.specs.Rules.{known, lengthAllowed, portsListed, allowed}
+use Rattle.flit_words.specs.declared.Header.{Header}
+use Rattle.flit_rules.specs.declared.Row.{Row}
+use Rattle.flit_words.specs.Words.{flit1Of, flit2Of, flit3Of}
+use Rattle.flit_rules.specs.Table.{rowOf, extra}
+use Rattle.flit_rules.specs.Rules.{known, lengthAllowed, portsListed, allowed}
 use Rattle.flits.specs.declared.Written.{Written}
 use Rattle.flits.specs.Reading.{lowest}
 

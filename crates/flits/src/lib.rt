@@ -4,7 +4,7 @@ pub mod reading;
 pub mod rounds;
 pub mod writing;
 
-use flit_fields::Header;
+use flit_words::Header;
 
 // What a read answers: refusal number 0 with the fields, the flits used and the place where the data start; or the number, and nothing else.
 pub struct Read {

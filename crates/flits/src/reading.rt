@@ -3,9 +3,9 @@ ghost use mathlib.Core.Bool.{cond};
 ghost use lib.ListN.{getD, drop};
 ghost use Rattle.flits.specs.Reading.{lowest, refusals, answer, readOf, dataOf};
 use crate::Read;
-use flit_fields::Header;
-use flit_fields::Node;
-use flit_fields::Row;
+use flit_rules::Row;
+use flit_words::Header;
+use flit_words::Node;
 
 // The flit at i, 0 past the end.
 fn flit_at(flits: &[u64], i: usize) -> u64
@@ -39,20 +39,18 @@ fn read_refusal(row: Row, h: Header, count: u64, flit1: u64, flit2: u64, flit3: 
 {
     let length = bits::cut(flit1, 22, 8);
     let extra = header_extra(row.three);
-    let from16 = unless(
-        flit_fields::rules::fields_allowed(row, extra < length, h),
-        16,
-        0,
-    );
-    let from15 = unless(
-        flit_fields::rules::reserved_clear(row, flit1, flit2, flit3),
-        15,
-        from16,
-    );
-    let from14 = unless(flit_fields::rules::ports_listed(row, h), 14, from15);
-    let from13 = unless(length < count, 13, from14);
-    let from12 = unless(flit_fields::rules::length_allowed(row, length), 12, from13);
-    let from11 = unless(flit_fields::rules::in_table(row), 11, from12);
+    let known = flit_rules::rules::in_table(row);
+    let long = flit_rules::rules::length_allowed(row, length);
+    let ports = flit_rules::rules::ports_listed(row, h);
+    let clear = flit_rules::rules::reserved_clear(row, flit1, flit2, flit3);
+    let allowed = flit_rules::rules::fields_allowed(row, extra < length, h);
+    let whole = length < count;
+    let from16 = unless(allowed, 16, 0);
+    let from15 = unless(clear, 15, from16);
+    let from14 = unless(ports, 14, from15);
+    let from13 = unless(whole, 13, from14);
+    let from12 = unless(long, 12, from13);
+    let from11 = unless(known, 11, from12);
     unless(0 < count, 10, from11)
 }
 
@@ -101,10 +99,10 @@ pub fn read(flits: &[u64]) -> Read
     ensures { λ r. ⌜ r ≡ readOf (now (flits .entry)) ⌝ }
 {
     let flit1 = flit_at(flits, 0);
-    let row = flit_fields::table::row(bits::cut(flit1, 14, 8));
+    let row = flit_rules::table::row(bits::cut(flit1, 14, 8));
     let flit2 = only_if(row.three, flit_at(flits, 1));
     let flit3 = only_if(row.three, flit_at(flits, 2));
-    let h = flit_fields::words::header(flit1, flit2, flit3);
+    let h = flit_words::header_of(flit1, flit2, flit3);
     let n = read_refusal(row, h, flits.len() as u64, flit1, flit2, flit3);
     let used = bits::cut(flit1, 22, 8) + 1;
     let start = header_extra(row.three) + 1;

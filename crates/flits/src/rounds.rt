@@ -5,7 +5,7 @@ ghost use Rattle.flits.specs.Writing.{bufferOf};
 ghost use Rattle.flits.specs.Rounds.{copiedOf, copyBuffer, echoOf};
 use crate::Read;
 use crate::Written;
-use flit_fields::Header;
+use flit_words::Header;
 
 // Reads the front message and writes it again at a place of the buffer: exactly the flits that were read.
 pub fn copy(flits: &[u64], buffer: &mut [u64], at: usize) -> Written

@@ -9,8 +9,8 @@ ghost use Rattle.flits.specs.Writing.{refusals, headerFlits, writtenOf, 
 use crate::Written;
 use crate::reading::header_extra;
 use crate::reading::unless;
-use flit_fields::Header;
-use flit_fields::Row;
+use flit_rules::Row;
+use flit_words::Header;
 
 // n flits fit from `at` on into a buffer of `room`.
 fn fits_at(room: usize, at: usize, n: usize) -> bool
@@ -25,15 +25,16 @@ fn write_refusal(row: Row, h: Header, count: usize, room: usize, at: usize) -> u
 {
     let length = header_extra(row.three) + count as u64;
     let n = length + 1;
-    let from17 = unless(fits_at(room, at, n as usize), 17, 0);
-    let from16 = unless(
-        flit_fields::rules::fields_allowed(row, 0 < count, h),
-        16,
-        from17,
-    );
-    let from14 = unless(flit_fields::rules::ports_listed(row, h), 14, from16);
-    let from12 = unless(flit_fields::rules::length_allowed(row, length), 12, from14);
-    unless(flit_fields::rules::in_table(row), 11, from12)
+    let known = flit_rules::rules::in_table(row);
+    let long = flit_rules::rules::length_allowed(row, length);
+    let ports = flit_rules::rules::ports_listed(row, h);
+    let allowed = flit_rules::rules::fields_allowed(row, 0 < count, h);
+    let inside = fits_at(room, at, n as usize);
+    let from17 = unless(inside, 17, 0);
+    let from16 = unless(allowed, 16, from17);
+    let from14 = unless(ports, 14, from16);
+    let from12 = unless(long, 12, from14);
+    unless(known, 11, from12)
 }
 
 // The header flits, at the front of a part.
@@ -42,11 +43,11 @@ fn write_header(part: &mut [u64], h: Header, count: u64, three: bool)
     ensures { λ _. ⌜ now (part .exit) ≡ headerFlits three h count ++ drop (cond three 2 0 + 1) (now (part .entry)) ⌝ }
 {
     if three {
-        part[0] = flit_fields::words::flit1(h, count);
-        part[1] = flit_fields::words::flit2(h);
-        part[2] = flit_fields::words::flit3(h);
+        part[0] = flit_words::flit1(h, count);
+        part[1] = flit_words::flit2(h);
+        part[2] = flit_words::flit3(h);
     } else {
-        part[0] = flit_fields::words::flit1(h, count);
+        part[0] = flit_words::flit1(h, count);
     }
 }
 
@@ -76,7 +77,7 @@ fn write_message(part: &mut [u64], h: Header, count: u64, three: bool, words: &[
 pub fn write(h: Header, words: &[u64], buffer: &mut [u64], at: usize) -> Written
     ensures { λ r. ⌜ (r ≡ writtenOf h (length (now (words .entry))) (length (now (buffer .entry))) at) × (now (buffer .exit) ≡ bufferOf h (now (words .entry)) (now (buffer .entry)) at) ⌝ }
 {
-    let row = flit_fields::table::row(h.opcode);
+    let row = flit_rules::table::row(h.opcode);
     let n = write_refusal(row, h, words.len(), buffer.len(), at);
     if n == 0 {
         let count = header_extra(row.three) + words.len() as u64;

@@ -18,7 +18,7 @@ returns c =
       c .before .header-extra .ensures,
       c .before .before .cut2 .ensures,
       c .before .before .before .read-refusal .ensures,
-      c .before .before .before .before .header .ensures,
+      c .before .before .before .before .header-of .ensures,
       c .before .before .before .before .before .only-if2 .ensures,
       c .before .before .before .before .before .before .flit-at3 .ensures,
       c .before .before .before .before .before .before .before .only-if .ensures,

@@ -18,15 +18,15 @@ returns : tie.Need-returns
 returns c =
     rw (
       c .unless5 .ensures,
-      c .before .in-table .ensures,
-      c .before .before .unless4 .ensures,
-      c .before .before .before .length-allowed .ensures,
-      c .before .before .before .before .unless3 .ensures,
-      c .before .before .before .before .before .ports-listed .ensures,
-      c .before .before .before .before .before .before .unless2 .ensures,
-      c .before .before .before .before .before .before .before .fields-allowed .ensures,
-      c .before .before .before .before .before .before .before .before .unless .ensures,
-      c .before .before .before .before .before .before .before .before .before .fits-at .ensures,
+      c .before .unless4 .ensures,
+      c .before .before .unless3 .ensures,
+      c .before .before .before .unless2 .ensures,
+      c .before .before .before .before .unless .ensures,
+      c .before .before .before .before .before .fits-at .ensures,
+      c .before .before .before .before .before .before .fields-allowed .ensures,
+      c .before .before .before .before .before .before .before .ports-listed .ensures,
+      c .before .before .before .before .before .before .before .before .length-allowed .ensures,
+      c .before .before .before .before .before .before .before .before .before .in-table .ensures,
       c .before .before .before .before .before .before .before .before .before .before .header-extra .ensures,
     )
 

@@ -1,4 +1,0 @@
-pub mod Tests
-pub mod TableLaws
-pub mod HeaderLaws
-pub mod RuleLaws

@@ -1,0 +1,3 @@
+pub mod Tests
+pub mod TableLaws
+pub mod RuleLaws
