@@ -20,7 +20,7 @@ use Rattle.protocol.specs.Parts.{Words, Queue, empty, one, two, Access, reading
 use Rattle.codec.specs.Encode.{zeros, row, noRow, flag, rightNumber, encRequest, encForward, encReply, encToMemory, encFromMemory, encQueue, stateNumber, cacheWords, waitingNumber, waitingWord, waitingValue, encHead, encTile, directoryNumber, directoryTiles, encLine, lineOf, phaseNumber, requester, owedTiles, encHome}
 use Rattle.codec.specs.Decode.{isSet, decRight, decRequest, decForward, ackData, decReply, decToMemory, decFromMemory, decQueue, decCache, decWaiting, decTile, decDirectory, decLine, decHome, benchFrom}
 use Rattle.codec.specs.Same.{same, sameRow, samePair, canonQueue, tileOk, canonControl, homeOk}
-use Rattle.codec.specs.Range.{Eight, RequestIn, ForwardIn, DataIn, ReplyIn, ToMemoryIn, FromMemoryIn, QueueIn, CacheIn, WaitingIn, TileIn, DirectoryIn, LineIn, CauseIn, ClearingIn, HomeIn, LineEight, HomeEight, BenchIn}
+use Rattle.codec.specs.Range.{Eight, RequestIn, ForwardIn, DataIn, ReplyIn, ToMemoryIn, FromMemoryIn, QueueIn, CacheIn, WaitingIn, TileIn, TilesIn, DirectoryIn, LineIn, CauseIn, ClearingIn, HomeIn, LineEight, HomeEight, BenchIn, InRange}
 use Rattle.codec.proofs.Canonical.{canon1, canon2, canon3, canon4, canon5}
 
 -- ---- equal blocks pass
@@ -127,11 +127,15 @@ unfolding encFromMemory
 from-memory-typed (loadMemAck ws) = refl
 from-memory-typed storeMemAck = refl
 
-queue-round : {A : Type 0} (P : A → Type 0) (f : A → Row) (g : Row → A) → ((a : A) → P a → g (f a) ≡ a) → ((a : A) → eqb (f a .n0) 0 ≡ false) → (q : Queue A) → QueueIn P q → decQueue g (encQueue f q) ≡ q
-unfolding decQueue encQueue
-queue-round P f g r z empty h = refl
-queue-round P f g r z (one a) h = rw (z a) (ap one (r a h))
-queue-round P f g r z (two a b) h = rw (z a, z b) (ap₂ two (r a (h .0)) (r b (h .1)))
+module _ {A : Type 0} (P : A → Type 0) (f : A → Row) (g : Row → A) (r : (a : A) → P a → g (f a) ≡ a) (z : (a : A) → eqb (f a .n0) 0 ≡ false) where
+  queue-round : (q : Queue A) → QueueIn P q → decQueue g (encQueue f q) ≡ q
+  unfolding decQueue encQueue
+  queue-round empty h = refl
+  queue-round (one a) h = rw (z a) (ap one (r a h))
+  queue-round (two a b) h = rw (z a, z b) (ap₂ two (r a (h .0)) (r b (h .1)))
+
+  queue-passes : (way : ℕ) → ((q : Pair) → canonQueue way q ≡ encQueue f (decQueue g q)) → (q : Queue A) → QueueIn P q → samePair (canonQueue way (encQueue f q)) (encQueue f q) ≡ true
+  queue-passes way canon q h = pair-same _ _ (canon (encQueue f q) ∙ ap (encQueue f) (queue-round q h))
 
 cache-round : (c : Cache) (p : Waiting) → decCache (encHead c p) ≡ c
 unfolding decCache encHead stateNumber cacheWords rightNumber decRight
@@ -146,41 +150,6 @@ waiting-round c nothing h = refl
 waiting-round c (forLoad w) h = ap forLoad (mod-eq-of-lt h)
 waiting-round c (forStore w v) h = ap (λ (x : ℕ). forStore x v) (mod-eq-of-lt h)
 
-module _ (q : Queue Request) (h : QueueIn RequestIn q) where
-  noc1-round : decQueue decRequest (encQueue encRequest q) ≡ q
-  noc1-round = queue-round RequestIn encRequest decRequest request-round request-typed q h
-
-  noc1-passes : samePair (canonQueue 1 (encQueue encRequest q)) (encQueue encRequest q) ≡ true
-  noc1-passes = pair-same _ _ (canon1 (encQueue encRequest q) ∙ ap (encQueue encRequest) noc1-round)
-
-module _ (q : Queue Forward) (h : QueueIn ForwardIn q) where
-  noc2-round : decQueue decForward (encQueue encForward q) ≡ q
-  noc2-round = queue-round ForwardIn encForward decForward forward-round forward-typed q h
-
-  noc2-passes : samePair (canonQueue 2 (encQueue encForward q)) (encQueue encForward q) ≡ true
-  noc2-passes = pair-same _ _ (canon2 (encQueue encForward q) ∙ ap (encQueue encForward) noc2-round)
-
-module _ (q : Queue Reply) (h : QueueIn ReplyIn q) where
-  noc3-round : decQueue decReply (encQueue encReply q) ≡ q
-  noc3-round = queue-round ReplyIn encReply decReply reply-round reply-typed q h
-
-  noc3-passes : samePair (canonQueue 3 (encQueue encReply q)) (encQueue encReply q) ≡ true
-  noc3-passes = pair-same _ _ (canon3 (encQueue encReply q) ∙ ap (encQueue encReply) noc3-round)
-
-module _ (q : Queue ToMemory) (h : QueueIn ToMemoryIn q) where
-  out-round : decQueue decToMemory (encQueue encToMemory q) ≡ q
-  out-round = queue-round ToMemoryIn encToMemory decToMemory to-memory-round to-memory-typed q h
-
-  out-passes : samePair (canonQueue 4 (encQueue encToMemory q)) (encQueue encToMemory q) ≡ true
-  out-passes = pair-same _ _ (canon4 (encQueue encToMemory q) ∙ ap (encQueue encToMemory) out-round)
-
-module _ (q : Queue FromMemory) (h : QueueIn FromMemoryIn q) where
-  back-round : decQueue decFromMemory (encQueue encFromMemory q) ≡ q
-  back-round = queue-round FromMemoryIn encFromMemory decFromMemory from-memory-round from-memory-typed q h
-
-  back-passes : samePair (canonQueue 5 (encQueue encFromMemory q)) (encQueue encFromMemory q) ≡ true
-  back-passes = pair-same _ _ (canon5 (encQueue encFromMemory q) ∙ ap (encQueue encFromMemory) back-round)
-
 -- ---- a tile
 
 pub tile-round : (x : Tile) → TileIn x → decTile (encTile x) ≡ x
@@ -188,16 +157,16 @@ unfolding decTile encTile
 tile-round (tileOf c p q1 q2 q3) h =
     let a = cache-round c p in
     let b = waiting-round c p (h .1) in
-    let d = noc1-round q1 (h .2) in
-    let e = noc2-round q2 (h .3) in
-    let f = noc3-round q3 (h .4) in
+    let d = queue-round RequestIn encRequest decRequest request-round request-typed q1 (h .2) in
+    let e = queue-round ForwardIn encForward decForward forward-round forward-typed q2 (h .3) in
+    let f = queue-round ReplyIn encReply decReply reply-round reply-typed q3 (h .4) in
     λ i. tileOf (a i) (b i) (d i) (e i) (f i)
 
 pub tile-passes : (x : Tile) → TileIn x → tileOk (encTile x) ≡ true
 unfolding tileOk encTile
 tile-passes (tileOf c p q1 q2 q3) h =
     both (row-same _ _ (ap₂ encHead (cache-round c p) (waiting-round c p (h .1))))
-    (both (noc1-passes q1 (h .2)) (both (noc2-passes q2 (h .3)) (noc3-passes q3 (h .4))))
+    (both (queue-passes RequestIn encRequest decRequest request-round request-typed 1 canon1 q1 (h .2)) (both (queue-passes ForwardIn encForward decForward forward-round forward-typed 2 canon2 q2 (h .3)) (queue-passes ReplyIn encReply decReply reply-round reply-typed 3 canon3 q3 (h .4))))
 
 -- ---- the home
 
@@ -252,7 +221,7 @@ module _ (n : ℕ) (h : Home) (l k : ℕ) (mem : Words) (out : Queue ToMemory) (
       let d = ap owedTiles e in
       both (eq-eqb _ _ (ap phaseNumber e))
       (both (row-same _ _ (ap (λ (x : Home). encLine (lineOf x)) e))
-      (both (row-same _ _ (λ j. row (a j) (b j) (c j) (d j) mem)) (both (out-passes out (i .out-in)) (back-passes back (i .back-in)))))
+      (both (row-same _ _ (λ j. row (a j) (b j) (c j) (d j) mem)) (both (queue-passes ToMemoryIn encToMemory decToMemory to-memory-round to-memory-typed 4 canon4 out (i .out-in)) (queue-passes FromMemoryIn encFromMemory decFromMemory from-memory-round from-memory-typed 5 canon5 back (i .back-in)))))
 
   pub bench-round : (us : List Tile) → benchFrom (encHome n h l k mem out back) us ≡ benchOf h l k mem out back us
   unfolding benchFrom encHome
@@ -260,8 +229,8 @@ module _ (n : ℕ) (h : Home) (l k : ℕ) (mem : Words) (out : Queue ToMemory) (
       let e = home-round n h (i .home-in) in
       let a : _≡_ {A = ℕ} (l % n) l = mod-eq-of-lt (i .last-in) in
       let b : _≡_ {A = ℕ} (k % 2 ^ n) k = mod-eq-of-lt (i .marks-in) in
-      let c = out-round out (i .out-in) in
-      let d = back-round back (i .back-in) in
+      let c = queue-round ToMemoryIn encToMemory decToMemory to-memory-round to-memory-typed out (i .out-in) in
+      let d = queue-round FromMemoryIn encFromMemory decFromMemory from-memory-round from-memory-typed back (i .back-in) in
       λ j. benchOf (e j) (a j) (b j) mem (c j) (d j) us
 
 -- ---- the blocks of parts in range have rows of eight words
@@ -431,3 +400,20 @@ tile-read x f = (
   queue-read ForwardIn decForward forward-read (x .noc2) (f .noc2-full),
   queue-read ReplyIn decReply reply-read (x .noc3) (f .noc3-full),
 )
+
+pub bench-read : (x : HomeBlock) (ts : List Tile) → 1 ≤ x .tiles → x .tiles ≤ 64 → HomeFull x → length ts ≡ x .tiles → TilesIn ts → InRange (x .tiles) (benchFrom x ts)
+unfolding benchFrom
+bench-read x ts a b f n h =
+    record {
+      some-tile = a;
+      most-tiles = b;
+      home-in = home-read (x .tiles) (x .phase) (x .line) (x .control .n2) (x .control .n3) a;
+      home-eight = home-words-read (x .tiles) (x .phase) (x .line) (x .control .n2) (x .control .n3) (f .line-full);
+      last-in = mod-lt (x .control .n0) a;
+      marks-in = mod-lt (x .control .n1) (pow-pos (x .tiles));
+      memory-eight = f .control-full;
+      out-in = queue-read ToMemoryIn decToMemory to-memory-read (x .out) (f .out-full);
+      back-in = queue-read FromMemoryIn decFromMemory from-memory-read (x .back) (f .back-full);
+      tile-count = n;
+      tiles-in = h;
+    }
