@@ -2,3 +2,4 @@ pub mod Guard
 pub mod Laid
 pub mod Decoded
 pub mod TileCalls
+pub mod RoundTrip
