@@ -20,7 +20,9 @@ use Rattle.codec.specs.Encode.{encTile, encTiles, encHome, encode}
 use Rattle.codec.specs.Decode.{decTile, decTiles, benchFrom, decoded}
 use Rattle.codec.specs.Same.{tileOk, homeOk}
 use Rattle.codec.specs.Range.{TileIn, TilesIn, BenchIn, InRange}
-use Rattle.codec.proofs.Round.{both, tile-round, tile-passes, tile-eight, tile-read, home-passes, home-eight, bench-round, bench-read}
+use Rattle.codec.proofs.Laws.{both}
+use Rattle.codec.proofs.RangeKept.{tile-in}
+use Rattle.codec.proofs.Round.{tile-round, tile-passes, tile-eight, tile-read, home-passes, home-eight, bench-round, bench-read}
 use Rattle.bench.specs.Calls.{need, tilesOk, wellFormed}
 use Rattle.bench.specs.Theorems.{WellFormed-iff, WellFormed-statement}
 use Rattle.bench.proofs.Laid.{AllFull, Laid, length-tiles, laid-length, laid-home, laid-tile}
@@ -48,11 +50,6 @@ tiles-round l i (x ∷ ts) h f =
     let first : i ≡ i + 84 * 0 = omega arith in
     ap₂ {C = List Tile} (λ y ys. y ∷ ys) (ap decTile (ap (blocks.tileAt l) first ∙ f 0 (omega arith)) ∙ tile-round x (h .0))
     (tiles-round l (i + 84) ts (h .1) (λ t b. let next : i + 84 + 84 * t ≡ i + 84 * suc t = omega arith in ap (blocks.tileAt l) next ∙ f (suc t) (omega arith)))
-
-tile-of-in : (ts : List Tile) (t : ℕ) → t < length ts → TilesIn ts → TileIn (tileAt ts t)
-tile-of-in [] t b h = absurd (omega arith)
-tile-of-in (x ∷ ts) ℕ.zero b h = h .0
-tile-of-in (x ∷ ts) (suc t) b h = tile-of-in ts t (omega arith) (h .1)
 
 all-full : (ts : List Tile) → TilesIn ts → AllFull ts
 all-full [] h = tt
@@ -97,7 +94,7 @@ module _ (h : Home) (last k : ℕ) (mem : Words) (out : Queue ToMemory) (back : 
         most = rw count-is (i .most-tiles);
         enough = rw count-is enough;
         home = rw home-is (home-passes (length ts) h last k mem out back ts i);
-        tiles = rw count-is (tiles-pass true l 74 (length ts) refl (λ t b. ap tileOk (tile-is t b) ∙ tile-passes (tileAt ts t) (tile-of-in ts t b (i .tiles-in))));
+        tiles = rw count-is (tiles-pass true l 74 (length ts) refl (λ t b. ap tileOk (tile-is t b) ∙ tile-passes (tileAt ts t) (tile-in ts t (i .tiles-in))));
       })
 
   decodes-to : decoded l ≡ b

@@ -20,6 +20,7 @@ use Rattle.protocol.specs.Demand3.{kept, after, runs}
 use Rattle.protocol.proofs.Tests.{by-test}
 use Rattle.protocol.proofs.Search.{first-passes, eligible-below}
 use Rattle.codec.specs.Range.{Eight, RequestIn, ForwardIn, DataIn, ReplyIn, ToMemoryIn, FromMemoryIn, QueueIn, CacheIn, WaitingIn, TileIn, TilesIn, DirectoryIn, LineIn, CauseIn, ClearingIn, HomeIn, LineEight, HomeEight, BenchIn, InRange}
+use Rattle.codec.proofs.Laws.{either}
 
 -- ---- what holds of an answer, where there is one
 
@@ -54,10 +55,6 @@ MoveIn n (move h ms) = HomeIn n h × HomeEight h × MessagesIn ms
 abbrev HomeFine : ℕ → Home → Type 0
 HomeFine n h = HomeIn n h × HomeEight h
 
-either : {A : Type 0} (P : A → Type 0) (b : Bool) {x y : A} → P x → P y → P (cond b x y)
-either P true p q = p
-either P false p q = q
-
 -- ---- queues and tiles
 
 module _ {A : Type 0} (P : A → Type 0) where
@@ -83,7 +80,7 @@ map-in : {A B : Type 0} (P : A → Type 0) (R : B → Type 0) (f : A → B) → 
 map-in P R f g none h = tt
 map-in P R f g (some a) h = g a h
 
-tile-in : (ts : List Tile) (t : ℕ) → TilesIn ts → TileIn (tileAt ts t)
+pub tile-in : (ts : List Tile) (t : ℕ) → TilesIn ts → TileIn (tileAt ts t)
 tile-in [] t h = (tt, tt, tt, tt, tt)
 tile-in (x ∷ ts) ℕ.zero h = h .0
 tile-in (x ∷ ts) (suc t) h = tile-in ts t (h .1)

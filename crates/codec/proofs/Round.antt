@@ -21,12 +21,10 @@ use Rattle.codec.specs.Encode.{zeros, row, noRow, flag, rightNumber, enc
 use Rattle.codec.specs.Decode.{isSet, decRight, decRequest, decForward, ackData, decReply, decToMemory, decFromMemory, decQueue, decCache, decWaiting, decTile, decDirectory, decLine, decHome, benchFrom}
 use Rattle.codec.specs.Same.{same, sameRow, samePair, canonQueue, tileOk, canonControl, homeOk}
 use Rattle.codec.specs.Range.{Eight, RequestIn, ForwardIn, DataIn, ReplyIn, ToMemoryIn, FromMemoryIn, QueueIn, CacheIn, WaitingIn, TileIn, TilesIn, DirectoryIn, LineIn, CauseIn, ClearingIn, HomeIn, LineEight, HomeEight, BenchIn, InRange}
+use Rattle.codec.proofs.Laws.{both, either}
 use Rattle.codec.proofs.Canonical.{canon1, canon2, canon3, canon4, canon5}
 
 -- ---- equal blocks pass
-
-pub both : {a b : Bool} → a ≡ true → b ≡ true → (a && b) ≡ true
-both p q = rw (p, q)
 
 eqb-self : (x : ℕ) → eqb x x ≡ true
 eqb-self x = eq-eqb x x refl
@@ -315,15 +313,11 @@ home-eight n h l k mem out back a b c d =
 
 -- ---- what is read is in range
 
-either : {A : Type 0} (P : A → Type 0) (b : Bool) {x y : A} → P x → P y → P (cond b x y)
-either P true p q = p
-either P false p q = q
-
 directory-read : (n d x : ℕ) → 0 < n → DirectoryIn n (decDirectory n d x)
 unfolding decDirectory
 directory-read n d x h = either (DirectoryIn n) (eqb d 0) tt (either (DirectoryIn n) (eqb d 1) (mod-lt x (pow-pos n)) (mod-lt x h))
 
-line-read : (n : ℕ) (x : Row) → 0 < n → LineIn n (decLine n x)
+pub line-read : (n : ℕ) (x : Row) → 0 < n → LineIn n (decLine n x)
 unfolding decLine
 line-read n x h = either (LineIn n) (eqb (x .n0) 0) tt (directory-read n (x .n2) (x .n3) h)
 
