@@ -1,22 +1,22 @@
 -- A list of calls on words is the list of rule steps, so demand 3 holds of it. Assumes nothing.
 use Prim.Native.Nat.{ℕ, _+_, _-_, _*_, _≤_}
 use mathlib.Core.Path.{_≡_, refl, ap, ap₂, sym, _∙_, subst}
-use mathlib.Core.Bool.{Bool, cond, true, false, _&&_}
+use mathlib.Core.Bool.{Bool, cond, _&&_}
 use mathlib.Core.List.{List, [], _∷_, _++_}
-use lib.ListN.{length, getD, drop}
+use lib.ListN.{getD, drop}
 use Rattle.codec.specs.Encode.{encode}
 use Rattle.codec.specs.Decode.{decoded}
 use Rattle.codec.specs.Range.{InRange}
 use Rattle.codec.proofs.RangeKept.{after-in, runs-in, fresh-in}
-use Rattle.protocol.specs.Parts.{Words, Bench, Call, Result, refused, accepted}
+use Rattle.protocol.specs.Parts.{Bench, Call, Result, refused, accepted}
 use Rattle.protocol.specs.Bench.{fresh, step, tileAt}
 use Rattle.protocol.specs.Demand3 as rules
 use Rattle.protocol.specs.Demand3.{kept, after, runs, answered, Event, event, history, one-if, isAccepted, isDelivery, isOther, waits, isWaiting, tilesOf, next, Quiet, isMisfit, requestAtFront, takes, takesAnother, Demand3}
 use Rattle.protocol.proofs.Theorem.{demand3}
 use Rattle.bench.specs.declared.Answer.{Answer}
-use Rattle.bench.specs.Calls.{need, wellFormed, stepOn, answerOf, wordsAfter}
+use Rattle.bench.specs.Calls.{need, stepOn, answerOf, wordsAfter}
 use Rattle.bench.specs.Runs.{startedWords, answerTo, afterCall, callWords, callAnswers, ruleAnswers, said, callHistory, canBeAccepted, acceptedOf, passesOver, passedOver}
-use Rattle.bench.specs.Theorems.{Calls-are-steps, Calls-statement, Started-statement, Demand3-on, Demand3-of-calls}
+use Rattle.bench.specs.Theorems.{Calls-are-steps, Calls-statement, Started-statement, Demand3-of-calls}
 use Rattle.bench.proofs.RoundTrip.{Encodes, encodes, decoded-in, decoded-encoded}
 
 -- refusal number, kind and value of the answer are the rules'

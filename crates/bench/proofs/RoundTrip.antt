@@ -1,30 +1,29 @@
 -- Words are well formed exactly if they begin with the encoding of a bench in range, and then they are the encoding of what they
 -- decode to. Assumes nothing.
-use Prim.Native.Nat.{ℕ, suc, _+_, _-_, _*_, _≤_, _<_}
+use Prim.Native.Nat.{ℕ, suc, _+_, _*_, _≤_, _<_}
 use mathlib.Core.Path.{_≡_, refl, ap, ap₂, sym, _∙_, subst}
-use mathlib.Core.Bool.{Bool, cond, true, false, _&&_}
+use mathlib.Core.Bool.{Bool, true, _&&_}
 use mathlib.Core.List.{List, [], _∷_, _++_, append-assoc}
 use native.Mathlib.Omega.{arith}
-use lib.Dec.{leb, ltb}
 use lib.ListN.{length, getD, drop, length-append}
 use lib.Seq.{drop-at}
 use borrow.Author.Tests.{le-leb, lt-ltb}
 use Rattle.words.specs.declared.HomeBlock.{HomeBlock}
 use Rattle.words.specs.Blocks as blocks
-use Rattle.words.specs.Blocks.{homeWords, homeAt, TileFull, HomeFull}
+use Rattle.words.specs.Blocks.{homeWords, homeAt, HomeFull}
 use Rattle.words.proofs.Over.{length-home}
 use Rattle.words.proofs.Reading.{tile-full, home-full}
 use Rattle.protocol.specs.Parts.{Words, Queue, Tile, ToMemory, FromMemory, Home, Bench, benchOf}
 use Rattle.protocol.specs.Bench.{tileAt}
 use Rattle.codec.specs.Encode.{encTile, encTiles, encHome, encode}
 use Rattle.codec.specs.Decode.{decTile, decTiles, benchFrom, decoded}
-use Rattle.codec.specs.Same.{tileOk, homeOk}
-use Rattle.codec.specs.Range.{TileIn, TilesIn, BenchIn, InRange}
+use Rattle.codec.specs.Same.{tileOk}
+use Rattle.codec.specs.Range.{TilesIn, BenchIn, InRange}
 use Rattle.codec.proofs.Laws.{both}
 use Rattle.codec.proofs.RangeKept.{tile-in}
 use Rattle.codec.proofs.Round.{tile-round, tile-passes, tile-eight, tile-read, home-passes, home-eight, bench-round, bench-read}
 use Rattle.bench.specs.Calls.{need, tilesOk, wellFormed}
-use Rattle.bench.specs.Theorems.{WellFormed-iff, WellFormed-statement}
+use Rattle.bench.specs.Theorems.{WellFormed-statement}
 use Rattle.bench.proofs.Laid.{AllFull, Laid, length-tiles, laid-length, laid-home, laid-tile}
 use Rattle.bench.proofs.Decoded.{Found, found, count, laid-out, encoded}
 

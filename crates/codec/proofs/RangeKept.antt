@@ -1,25 +1,25 @@
 -- A fresh bench is in range, and every call keeps a bench in range. Assumes nothing.
-use Prim.Native.Nat.{ℕ, suc, _+_, _-_, _≤_, _<_, _^_}
-use mathlib.Core.Path.{_≡_, refl, ap, sym, _∙_, subst}
-use mathlib.Core.Bool.{Bool, cond, true, false}
-use mathlib.Core.List.{List, [], _∷_, _++_, map}
+use Prim.Native.Nat.{ℕ, suc, _≤_, _<_, _^_}
+use mathlib.Core.Path.{_≡_, refl, _∙_, subst}
+use mathlib.Core.Bool.{Bool, true, false}
+use mathlib.Core.List.{List, [], _∷_, map}
 use mathlib.Core.Option.{Option, some, none, Option·map}
 use native.Mathlib.Omega.{arith}
 use lib.Dec.{eqb, ltb}
-use lib.ListN.{length, getD, set, replicate, length-set, length-replicate}
+use lib.ListN.{length, set, replicate, length-set, length-replicate}
 use lib.Pow.{pow-pos}
 use borrow.Author.Tests.{ltb-true}
 use Rattle.bits.specs.Mask.{has, add, del}
 use Rattle.bits.proofs.MaskLaws.{add-lt, del-lt}
 use Rattle.protocol.specs.Parts.{Words, Queue, empty, one, two, Access, reading, writing, Right, shared, exclusive, modified, Cache, invalid, valid, Waiting, nothing, forLoad, forStore, Request, loadReq, storeReq, wbGuardReq, Forward, loadFwd, storeFwd, invFwd, dataAck, Reply, wbReq, loadFwdAckS, loadFwdAckI, storeFwdAck, invFwdAck, ToMemory, loadMem, storeMem, FromMemory, loadMemAck, storeMemAck, Message, onNoc1, onNoc2, onNoc3, toMemory, fromMemory, Tile, tileOf, Directory, uncached, sharedBy, ownedBy, Line, absent, present, Cause, request, eviction, Clearing, clearForStore, clearForEviction, Home, idle, awaitingLoad, awaitingOwner, awaitingAcks, awaitingStore, Bench, benchOf, Call, load, store, evict, taking, toTile, fromTile, memoryStep, memoryAck, homeEviction, Result, refused, accepted}
 use Rattle.protocol.specs.Tile.{loadAt, storeAt, evictAt, Received, misfit, filled, answered, fill, receive, received, deliverTo}
-use Rattle.protocol.specs.Home.{Move, move, range, members, grantShared, grantOwner, ownRight, askedFor, askOwner, invalidateTo, invalidate, leave, serve, writeBack, wordsAfter, dirtyAfter, loadAckS, loadAckI, storeAck, cleared, invAck, acknowledged, evictLine}
+use Rattle.protocol.specs.Home.{Move, move, members, grantShared, grantOwner, ownRight, askedFor, askOwner, invalidateTo, invalidate, leave, serve, writeBack, wordsAfter, dirtyAfter, loadAckS, loadAckI, storeAck, cleared, invAck, acknowledged, evictLine}
 use Rattle.protocol.specs.Bench as bench
 use Rattle.protocol.specs.Bench.{freshTile, fresh, tileAt, push, front, rest, onTile1, onTile2, onTile3, sendOne, sendTo, send, sent, posted, settle, atTile, atWord, arbitrate, eligible, noc1, popNoc1, served, takeFrom, takingOn, noc3, popNoc3, writtenBack, moved, accept, fromTileOn, memoryServes, memoryStepOn, acceptAck, memoryAckOn, homeEvictionOn, step}
 use Rattle.protocol.specs.Demand3.{kept, after, runs}
 use Rattle.protocol.proofs.Tests.{by-test}
 use Rattle.protocol.proofs.Search.{first-passes, eligible-below}
-use Rattle.codec.specs.Range.{Eight, RequestIn, ForwardIn, DataIn, ReplyIn, ToMemoryIn, FromMemoryIn, QueueIn, CacheIn, WaitingIn, TileIn, TilesIn, DirectoryIn, LineIn, CauseIn, ClearingIn, HomeIn, LineEight, HomeEight, BenchIn, InRange}
+use Rattle.codec.specs.Range.{Eight, RequestIn, ForwardIn, DataIn, ReplyIn, ToMemoryIn, FromMemoryIn, QueueIn, CacheIn, TileIn, TilesIn, DirectoryIn, LineIn, CauseIn, ClearingIn, HomeIn, LineEight, HomeEight, BenchIn, InRange}
 use Rattle.codec.proofs.Laws.{either}
 
 -- ---- what holds of an answer, where there is one

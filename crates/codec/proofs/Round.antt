@@ -1,11 +1,10 @@
 -- Each part of a bench in range decodes to itself and its block passes the test; what a block is read as is in range; and the blocks of
 -- a bench in range have rows of eight words. Assumes nothing.
 use Prim.Native.Nat.{ℕ, _%_, _^_, _≤_, _<_}
-use mathlib.Core.Path.{_≡_, refl, ap, ap₂, sym, _∙_, subst}
-use mathlib.Core.Bool.{Bool, cond, true, false, _&&_, not}
+use mathlib.Core.Path.{_≡_, refl, ap, ap₂, _∙_}
+use mathlib.Core.Bool.{Bool, true, false}
 use mathlib.Core.List.{List, [], _∷_}
-use mathlib.Core.Option.{Option, some, none}
-use native.Mathlib.Omega.{arith}
+use mathlib.Core.Option.{some, none}
 use native.Mathlib.Nat.{mod-lt, mod-eq-of-lt}
 use lib.Dec.{eqb, lit<}
 use lib.ListN.{length}
@@ -16,11 +15,11 @@ use Rattle.words.specs.declared.Pair.{Pair}
 use Rattle.words.specs.declared.TileBlock.{TileBlock}
 use Rattle.words.specs.declared.HomeBlock.{HomeBlock}
 use Rattle.words.specs.Blocks.{PairFull, TileFull, HomeFull}
-use Rattle.protocol.specs.Parts.{Words, Queue, empty, one, two, Access, reading, writing, Right, shared, exclusive, modified, Cache, invalid, valid, Waiting, nothing, forLoad, forStore, Request, loadReq, storeReq, wbGuardReq, Forward, loadFwd, storeFwd, invFwd, dataAck, Reply, wbReq, loadFwdAckS, loadFwdAckI, storeFwdAck, invFwdAck, ToMemory, loadMem, storeMem, FromMemory, loadMemAck, storeMemAck, Tile, tileOf, Directory, uncached, sharedBy, ownedBy, Line, absent, present, Cause, request, eviction, Clearing, clearForStore, clearForEviction, Home, idle, awaitingLoad, awaitingOwner, awaitingAcks, awaitingStore, Bench, benchOf}
-use Rattle.codec.specs.Encode.{zeros, row, noRow, flag, rightNumber, encRequest, encForward, encReply, encToMemory, encFromMemory, encQueue, stateNumber, cacheWords, waitingNumber, waitingWord, waitingValue, encHead, encTile, directoryNumber, directoryTiles, encLine, lineOf, phaseNumber, requester, owedTiles, encHome}
+use Rattle.protocol.specs.Parts.{Words, Queue, empty, one, two, reading, writing, Right, shared, exclusive, modified, Cache, invalid, valid, Waiting, nothing, forLoad, forStore, Request, loadReq, storeReq, wbGuardReq, Forward, loadFwd, storeFwd, invFwd, dataAck, Reply, wbReq, loadFwdAckS, loadFwdAckI, storeFwdAck, invFwdAck, ToMemory, loadMem, storeMem, FromMemory, loadMemAck, storeMemAck, Tile, tileOf, Directory, uncached, sharedBy, ownedBy, Line, absent, present, request, eviction, clearForStore, clearForEviction, Home, idle, awaitingLoad, awaitingOwner, awaitingAcks, awaitingStore, benchOf}
+use Rattle.codec.specs.Encode.{row, flag, rightNumber, encRequest, encForward, encReply, encToMemory, encFromMemory, encQueue, stateNumber, cacheWords, waitingNumber, waitingWord, waitingValue, encHead, encTile, directoryNumber, directoryTiles, encLine, lineOf, phaseNumber, requester, owedTiles, encHome}
 use Rattle.codec.specs.Decode.{isSet, decRight, decRequest, decForward, ackData, decReply, decToMemory, decFromMemory, decQueue, decCache, decWaiting, decTile, decDirectory, decLine, decHome, benchFrom}
 use Rattle.codec.specs.Same.{same, sameRow, samePair, canonQueue, tileOk, canonControl, homeOk}
-use Rattle.codec.specs.Range.{Eight, RequestIn, ForwardIn, DataIn, ReplyIn, ToMemoryIn, FromMemoryIn, QueueIn, CacheIn, WaitingIn, TileIn, TilesIn, DirectoryIn, LineIn, CauseIn, ClearingIn, HomeIn, LineEight, HomeEight, BenchIn, InRange}
+use Rattle.codec.specs.Range.{Eight, RequestIn, ForwardIn, DataIn, ReplyIn, ToMemoryIn, FromMemoryIn, QueueIn, CacheIn, WaitingIn, TileIn, TilesIn, DirectoryIn, LineIn, HomeIn, LineEight, HomeEight, BenchIn, InRange}
 use Rattle.codec.proofs.Laws.{both, either}
 use Rattle.codec.proofs.Canonical.{canon1, canon2, canon3, canon4, canon5}
 
