@@ -60,7 +60,7 @@ tiles-get (x ∷ ts) (suc t) r h f =
     let e : 84 * suc t ≡ length (tileWords (encTile x)) + 84 * t = omega arith in
     rw append-assoc (ap (blocks.tileAt (tileWords (encTile x) ++ (encTiles ts ++ r))) e ∙ tile-behind (tileWords (encTile x)) (encTiles ts ++ r) (84 * t) ∙ tiles-get ts t r (omega arith) (f .1))
 
-length-tiles : (ts : List Tile) → AllFull ts → length (encTiles ts) ≡ 84 * length ts
+pub length-tiles : (ts : List Tile) → AllFull ts → length (encTiles ts) ≡ 84 * length ts
 unfolding encTiles
 length-tiles [] f = refl
 length-tiles (x ∷ ts) f =

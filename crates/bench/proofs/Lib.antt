@@ -8,3 +8,5 @@ pub mod Finished
 pub mod Commits
 pub mod Searched
 pub mod HomeCalls
+pub mod RoundTrip
+pub mod Demand3

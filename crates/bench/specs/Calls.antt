@@ -24,7 +24,7 @@ tilesOk a l i ℕ.zero = a
 tilesOk a l i (suc n) = tilesOk (a && tileOk (tileAt l i)) l (i + 84) n
 
 -- the words of a bench: tile count 1 to 64, at least as many words as it needs, and every block the encoding of what it is read
--- as (proofs/Words.antt: exactly if they begin with the encoding of a bench in range)
+-- as (specs/Theorems.antt: exactly if they begin with the encoding of a bench in range)
 unfoldable pub wellFormed : List ℕ → Bool
 wellFormed l =
     cond (leb 74 (length l))

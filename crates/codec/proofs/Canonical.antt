@@ -61,23 +61,23 @@ queue-canon f g q = go (eqb (q .a .n0) 0) (eqb (q .b .n0) 0)
     go false false = refl
 
 module _ (q : Pair) where
-  canon1 : canonQueue 1 q ≡ encQueue encRequest (decQueue decRequest q)
+  pub canon1 : canonQueue 1 q ≡ encQueue encRequest (decQueue decRequest q)
   unfolding canonQueue canonMessage
   canon1 = queue-canon encRequest decRequest q
 
-  canon2 : canonQueue 2 q ≡ encQueue encForward (decQueue decForward q)
+  pub canon2 : canonQueue 2 q ≡ encQueue encForward (decQueue decForward q)
   unfolding canonQueue canonMessage
   canon2 = queue-canon encForward decForward q
 
-  canon3 : canonQueue 3 q ≡ encQueue encReply (decQueue decReply q)
+  pub canon3 : canonQueue 3 q ≡ encQueue encReply (decQueue decReply q)
   unfolding canonQueue canonMessage
   canon3 = queue-canon encReply decReply q
 
-  canon4 : canonQueue 4 q ≡ encQueue encToMemory (decQueue decToMemory q)
+  pub canon4 : canonQueue 4 q ≡ encQueue encToMemory (decQueue decToMemory q)
   unfolding canonQueue canonMessage
   canon4 = queue-canon encToMemory decToMemory q
 
-  canon5 : canonQueue 5 q ≡ encQueue encFromMemory (decQueue decFromMemory q)
+  pub canon5 : canonQueue 5 q ≡ encQueue encFromMemory (decQueue decFromMemory q)
   unfolding canonQueue canonMessage
   canon5 = queue-canon encFromMemory decFromMemory q
 

@@ -1,2 +1,4 @@
 pub mod Laws
 pub mod Canonical
+pub mod RangeKept
+pub mod Round
