@@ -1,2 +1,2 @@
 pub mod Job
-pub mod Walk
+pub mod Accepted
