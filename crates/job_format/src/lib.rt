@@ -2,7 +2,7 @@
 ghost use mathlib.Core.Path.{_≡_};
 ghost use Prim.Native.Nat.{_+_, _≤_, _<_, _^_};
 ghost use lib.ListN.{length, getD};
-ghost use Rattle.job_format.specs.Job.{bigAt, lengthAt, isTag, valueLength, inPlace, goodValue, firstFailed, fieldRefusal, refused, checkEnd, checkFields, checkJob, tilesOf, addressOf, memoryWord, partOf, jobCallAt};
+ghost use Rattle.job_format.specs.Job.{bigAt, lengthAt, isTag, valueLength, inPlace, goodValue, firstFailed, fieldRefusal, refused, checkEnd, checkFields, checkJob, tilesOf, addressOf, memoryWord, memoryOf, partOf, jobCallAt};
 
 // The answer of a check: refusal 0 accepts the job, any other number is 01's, of the field at the offset.
 pub struct Checked {
@@ -205,6 +205,22 @@ pub fn memory_word(job: &[u8], i: usize) -> u64
     ensures { λ r. ⌜ r ≡ memoryWord (now (job .entry)) i ⌝ }
 {
     if i < 8 { big_at(job, 16 + i * 8, 8) } else { 0 }
+}
+
+// All eight of them.
+pub fn memory(job: &[u8]) -> [u64; 8]
+    ensures { λ r. ⌜ r ≡ memoryOf (now (job .entry)) ⌝ }
+{
+    [
+        memory_word(job, 0),
+        memory_word(job, 1),
+        memory_word(job, 2),
+        memory_word(job, 3),
+        memory_word(job, 4),
+        memory_word(job, 5),
+        memory_word(job, 6),
+        memory_word(job, 7),
+    ]
 }
 
 // n bytes from a place on where the value has more than `before` bytes, else 0.
