@@ -134,7 +134,7 @@ header-field job at k h (found x p e) =
       next-is = ap (λ (n : ℕ). at + 3 + n) (eqb-true _ _ (p .len-holds) ∙ ap valueLength t);
       within = leb-true _ _ (p .whole-holds);
       good = p .value-holds;
-      rest = e
+      rest = e;
     }
 
 both-true : (a b : Bool) → (a && b) ≡ true → (a ≡ true) × (b ≡ true)
@@ -176,5 +176,5 @@ accepted-job job e =
       some-tiles = t .0;
       most-tiles = t .1;
       aligned = address-good job (f1 .tag-is) (f1 .good);
-      walked = walk (length job) job 80 3 (omega arith) w (omega arith) (look job 80 3 (rw (f2 .next-is) at (f2 .rest)))
+      walked = walk (length job) job 80 3 (omega arith) w (omega arith) (look job 80 3 (rw (f2 .next-is) at (f2 .rest)));
     }

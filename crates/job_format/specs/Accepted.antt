@@ -9,7 +9,7 @@ use Rattle.job_format.specs.Job.{Call, headerEnd, tilesOf, addressOf, ca
 pub data Walk (job : List ℕ) : ℕ → List Call → Type 0 where
   done : Walk job (length job) []
   step : {at : ℕ} {cs : List Call} → at < length job → 16 ≤ jobCallAt job at .tag → jobCallAt job at .tag ≤ 24 → jobCallAt job at .next ≤ length job
-    → Walk job (jobCallAt job at .next) cs → Walk job at (callOf (jobCallAt job at) ∷ cs)
+      → Walk job (jobCallAt job at .next) cs → Walk job at (callOf (jobCallAt job at) ∷ cs)
 
 pub record Accepted (job : List ℕ) : Type 0 where
   pub short : length job ≤ 65536

@@ -80,3 +80,13 @@ fits l m i j vs h p = record { place = rw (le-leb (i + length vs) (length l) h) 
 pub does-not-fit : (l : List ℕ) (i : ℕ) (vs : List ℕ) → length l < i + length vs → Placed l l i (length l + 1) vs
 unfolding bufferAfter placeAfter
 does-not-fit l i vs h = record { place = rw (lt-leb (i + length vs) (length l) h); buffer = rw (lt-leb (i + length vs) (length l) h) }
+
+-- the same by the answer of a room test for n elements
+pub has-room : {b : Bool} (len i n : ℕ) → b ≡ leb (i + n) len → b ≡ true → i + n ≤ len
+has-room len i n e t = leb-true (i + n) len (sym e ∙ t)
+
+pub with-room : {b : Bool} (l m : List ℕ) (i j n : ℕ) (vs : List ℕ) → n ≡ length vs → b ≡ leb (i + n) (length l) → b ≡ true → Put l m i j vs → Placed l m i j vs
+with-room l m i j n vs s e t p = fits l m i j vs (rw s at (has-room (length l) i n e t)) p
+
+pub without-room : {b : Bool} (l : List ℕ) (i n : ℕ) (vs : List ℕ) → n ≡ length vs → b ≡ leb (i + n) (length l) → b ≡ false → Placed l l i (length l + 1) vs
+without-room l i n vs s e t = does-not-fit l i vs (rw s at (leb-false (i + n) (length l) (sym e ∙ t)))

@@ -1,14 +1,10 @@
 use Rattle.lists.proofs.OverLaws.{room-test, past-room}
 use Rattle.lists.proofs.room.Statement.{statement}
 use Rattle.lists.proofs.room.Tie as tie
-use Rattle.lists.proofs.room.Reads as reads
-use Rattle.lists.proofs.room.Lts as lts
 
--- src/lib.rt:7:1
 returns : tie.Need-returns
 returns c = room-test _ _ _ (c .if1 .taken)
 
--- src/lib.rt:7:1
 returns-2 : tie.Need-returns-2
 returns-2 c = past-room _ _ _ (c .if1 .left)
 
