@@ -113,7 +113,8 @@ walk (suc n) job at k h w l (found x p e) =
     let t : (16 ≤ tagAt job at) × (tagAt job at ≤ 24) = call-tag k (tagAt job at) h (p .tag-holds) (p .place-holds) in
     let v : nextAt job at ≤ length job = leb-true _ _ (p .whole-holds) in
     rw (calls-step job at x)
-    (step {cs = callsAt job (jobCallAt job at .next)} x (rw (tag-in job at x) (t .0)) (rw (tag-in job at x) (t .1)) (rw (next-in job at x) v)
+    (step {cs = callsAt job (jobCallAt job at .next)} x (rw (tag-in job at x) (t .0)) (rw (tag-in job at x) (t .1))
+    (rw (next-in job at x, tag-in job at x) (ap (λ (r : ℕ). at + 3 + r) (eqb-true _ _ (p .len-holds)))) (rw (next-in job at x) v)
     (rw (next-in job at x) (walk n job (nextAt job at) (k + 1) (omega arith) v (omega arith) (look job (nextAt job at) (k + 1) e))))
 
 -- a header field: its tag, its length, and the next field's place

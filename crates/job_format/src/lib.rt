@@ -165,11 +165,12 @@ fn check_fields(job: &[u8]) -> Checked
     let mut at = 0;
     let mut k = 0;
     while at < job.len() {
+        let next = at + 3 + said_length(job, at);
         let number = field_refusal(job, at, k);
         if number != 0 {
             return refuse(number, at);
         }
-        at = at + 3 + said_length(job, at);
+        at = next;
         k += 1;
     }
     check_end(at, k)

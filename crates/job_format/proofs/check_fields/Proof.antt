@@ -17,14 +17,14 @@ abbrev μ-loop : tie.MeasureT-loop
 loop-holds : tie.Need-loop-holds Inv-loop μ-loop
 loop-holds c = (omega arith, omega arith, turns (length (c .before .args .job .now)) (length (c .before .args .job .now) - 0) (c .before .args .job .now) 0 0 (omega arith) (omega arith))
 
+add-next : tie.Need-add-next Inv-loop μ-loop
+add-next c = omega arith
+
+add-next-2 : tie.Need-add-next-2 Inv-loop μ-loop
+add-next-2 c = omega arith
+
 returns : tie.Need-returns Inv-loop μ-loop
-returns c = c .refuse .ensures ∙ sym (c .before .before .before .before .loop .inv .2 ∙ field-refused _ _ _ _ (c .before .before .before .loop-test .taken) (c .before .before .field-refusal .ensures) (c .before .if1 .taken))
-
-add-at : tie.Need-add-at Inv-loop μ-loop
-add-at c = omega arith
-
-add-at-2 : tie.Need-add-at-2 Inv-loop μ-loop
-add-at-2 c = omega arith
+returns c = c .refuse .ensures ∙ sym (c .before .before .before .before .before .loop .inv .2 ∙ field-refused _ _ _ _ (c .before .before .before .before .loop-test .taken) (c .before .before .field-refusal .ensures) (c .before .if1 .taken))
 
 add-k : tie.Need-add-k Inv-loop μ-loop
 add-k c = omega arith
@@ -33,7 +33,7 @@ loop-less : tie.Need-loop-less Inv-loop μ-loop
 loop-less c = omega arith
 
 loop-again : tie.Need-loop-again Inv-loop μ-loop
-loop-again c = turn _ _ _ _ _ _ (c .before .before .before .loop-test .taken) (c .before .before .before .before .loop .inv .1) (c .before .before .before .before .loop .inv .2) (c .before .before .field-refusal .ensures) (c .before .if1 .left) (c .said-length .ensures .0)
+loop-again c = turn _ _ _ _ _ _ (c .before .before .before .loop-test .taken) (c .before .before .before .before .loop .inv .1) (c .before .before .before .before .loop .inv .2) (c .before .field-refusal .ensures) (c .if1 .left) (c .before .before .said-length .ensures .0)
 
 returns-2 : tie.Need-returns-2 Inv-loop μ-loop
 returns-2 c = c .check-end .ensures ∙ sym (c .before .before .loop .inv .2 ∙ fields-end _ _ _ _ (c .before .loop-test .left))
@@ -45,12 +45,12 @@ check-fields-spec =
     Inv-loop
     μ-loop
     loop-holds
+    add-next
+    (λ c κs. search needs)
+    add-next-2
     (λ c κs. search needs)
     (λ c κs. search needs)
     returns
-    add-at
-    (λ c κs. search needs)
-    add-at-2
     add-k
     loop-less
     loop-again
