@@ -90,3 +90,27 @@ with-room l m i j n vs s e t p = fits l m i j vs (rw s at (has-room (length l) i
 
 pub without-room : {b : Bool} (l : List ℕ) (i n : ℕ) (vs : List ℕ) → n ≡ length vs → b ≡ leb (i + n) (length l) → b ≡ false → Placed l l i (length l + 1) vs
 without-room l i n vs s e t = does-not-fit l i vs (rw s at (leb-false (i + n) (length l) (sym e ∙ t)))
+
+-- ---- several puts one after the other: if the last place lies within the buffer, all of them fitted
+pub placed-put : (l m : List ℕ) (i j : ℕ) (vs : List ℕ) → Placed l m i j vs → j ≤ length l → Put l m i j vs
+unfolding bufferAfter placeAfter
+placed-put l m i j vs p h = go (leb (i + length vs) (length l)) refl
+  where
+    go : (b : Bool) → leb (i + length vs) (length l) ≡ b → Put l m i j vs
+    go true e = record { moved = rw e at (p .place); wrote = rw e at (p .buffer) }
+    go false e = absurd (let q : j ≡ length l + 1 = rw e at (p .place) in omega arith)
+
+pub placed-length : (l m : List ℕ) (i j : ℕ) (vs : List ℕ) → Placed l m i j vs → length m ≡ length l
+unfolding bufferAfter
+placed-length l m i j vs p = go (leb (i + length vs) (length l)) refl
+  where
+    go : (b : Bool) → leb (i + length vs) (length l) ≡ b → length m ≡ length l
+    go true e = ap length (rw e at (p .buffer)) ∙ length-over l i vs (leb-true (i + length vs) (length l) e)
+    go false e = ap length (rw e at (p .buffer))
+
+pub two-placed : (l m n : List ℕ) (i j k : ℕ) (xs ys : List ℕ) → Placed l m i j xs → Placed m n j k ys → k ≤ length l → Put l n i k (xs ++ ys)
+two-placed l m n i j k xs ys p q h =
+    let s : length m ≡ length l = placed-length l m i j xs p in
+    let b : Put m n j k ys = placed-put m n j k ys q (omega arith) in
+    let a : Put l m i j xs = placed-put l m i j xs p (omega (arith, b .moved)) in
+    join l m n i j k xs ys (omega (arith, a .moved, b .moved)) a b
