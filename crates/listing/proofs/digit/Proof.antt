@@ -1,0 +1,17 @@
+use borrow.Author.Tests.{lt-ltb, le-ltb}
+use Rattle.listing.specs.Lines.{digitByte}
+use borrow.Author.Needs.{needs}
+use Rattle.listing.proofs.digit.Statement.{statement}
+use Rattle.listing.proofs.digit.Tie as tie
+
+returns : tie.Need-returns
+unfolding digitByte
+returns c = simp (lt-ltb _ _ (c .if1 .taken))
+
+returns-2 : tie.Need-returns-2
+unfolding digitByte
+returns-2 c = simp (le-ltb _ _ (c .if1 .left))
+
+pub digit-spec : {M : Type 1} → statement M
+digit-spec =
+    tie.close (tie.spec (λ c. search needs) (λ c. search needs) (λ c. search needs) (λ c. search needs) returns returns-2)
