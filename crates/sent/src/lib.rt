@@ -1,0 +1,10 @@
+// Where the messages that a call sent stand after it.
+ghost use mathlib.Core.Path.{_≡_};
+ghost use lib.ListN.{length, getD};
+ghost use Rattle.sent.specs.Places.{placesOf, nowhere};
+
+// A queue of a bench: NoC1, NoC2 or NoC3 (1 to 3) of a tile; to memory (4) or from memory (5), with tile 0. Queue 0 is no queue.
+pub struct Place {
+    pub queue: u64,
+    pub tile: u64,
+}
