@@ -1,3 +1,4 @@
 pub mod Rising
 pub mod Last
 pub mod Sends
+pub mod Members

@@ -4,7 +4,7 @@ use Prim.Native.Nat.{ℕ, _≤_, _<_}
 use mathlib.Core.Bool.{Bool, cond, true, false}
 use mathlib.Core.List.{List, [], _∷_, map}
 use mathlib.Core.Option.{Option, some, none, Option·map}
-use lib.Dec.{eqb, leb}
+use lib.Dec.{eqb, leb, ltb}
 use lib.ListN.{length}
 use Rattle.protocol.specs.Parts.{Queue, empty, one, two, Request, Forward, Reply, Message, onNoc1, onNoc2, onNoc3, toMemory, fromMemory, Tile, tileOf, Directory, uncached, sharedBy, ownedBy, Line, absent, present, Cause, request, eviction, Clearing, clearForStore, clearForEviction, Home, idle, awaitingLoad, awaitingOwner, awaitingAcks, awaitingStore, Bench, benchOf}
 use Rattle.protocol.specs.Home.{members}
@@ -16,6 +16,10 @@ place q t = record { queue = q; tile = t }
 
 abbrev pub nowhere : Place
 nowhere = place 0 0
+
+-- the queue q of tile t, where there can be such a tile
+unfoldable pub ofTile : ℕ → ℕ → Place
+ofTile q t = cond (ltb t 64) (place q t) nowhere
 
 -- the queue q of every tile of a list
 unfoldable pub each : ℕ → List ℕ → List Place
