@@ -15,7 +15,7 @@ use Rattle.protocol.specs.Home.{members}
 use Rattle.protocol.specs.Bench.{freshTile, tileAt, push, onTile1, onTile2, onTile3, sendOne, sendTo, send, sent, posted, noc1, noc3}
 use Rattle.codec.specs.Sent.{sentOn, sentTo}
 use Rattle.sent.specs.declared.Place.{Place}
-use Rattle.sent.specs.Places.{place, each, both, placesOf, lastOf, noc2, lastAt, given, messagesAt}
+use Rattle.sent.specs.Places.{place, each, both, placesOf, lastOf, noc2, lastAt, placeOf, given, messagesAt, There}
 use Rattle.sent.proofs.Rising.{Rising, maskOf, members-mask}
 
 abbrev pub tilesOf : Bench → List Tile
@@ -35,10 +35,6 @@ pub data Shape (n : ℕ) : List Message → Type 0 where
   tells : (us : List ℕ) (f : Forward) → Rising 0 n us → Shape n (map (tell f) us)
   files : (m : ToMemory) → Shape n (toMemory m ∷ [])
   answers : (m : FromMemory) → Shape n (fromMemory m ∷ [])
-
--- the messages ms are those at the places that their numbers give
-abbrev pub There : List Message → Bench → Type 0
-There ms b = map (lastAt b) (placesOf (sentOn ms) (sentTo ms)) ≡ map some ms
 
 -- what was put on a queue is its last
 pushed : {A : Type 0} (a : A) (q : Queue A) (B : Option (Queue A) → Type 0) → B none → ((r : Queue A) → lastOf r ≡ some a → B (some r)) → B (push a q)
@@ -113,12 +109,12 @@ module _ (h : Home) (l k : ℕ) (mem : Words) (out : Queue ToMemory) (back : Que
           (λ y q. further f u us ts i y (omega (arith, r .1)) (r .0) q (send (map (tell f) us) (some (with (set ts u y)))) (later y))
 
 last4 : (h : Home) (l k : ℕ) (mem : Words) (out : Queue ToMemory) (back : Queue FromMemory) (ts : List Tile) (m : ToMemory) → lastOf out ≡ some m → There (toMemory m ∷ []) (benchOf h l k mem out back ts)
-unfolding lastAt sentOn sentTo placesOf
-last4 h l k mem out back ts m e = rw e
+unfolding lastAt sentOn sentTo placesOf placeOf
+last4 h l k mem out back ts m e = record { places = refl; last = rw e }
 
 last5 : (h : Home) (l k : ℕ) (mem : Words) (out : Queue ToMemory) (back : Queue FromMemory) (ts : List Tile) (m : FromMemory) → lastOf back ≡ some m → There (fromMemory m ∷ []) (benchOf h l k mem out back ts)
-unfolding lastAt sentOn sentTo placesOf
-last5 h l k mem out back ts m e = rw e
+unfolding lastAt sentOn sentTo placesOf placeOf
+last5 h l k mem out back ts m e = record { places = refl; last = rw e }
 
 -- the mask of the tiles told
 told-mask : (f : Forward) (us : List ℕ) → sentTo (map (tell f) us) ≡ maskOf us
@@ -135,30 +131,36 @@ abbrev pub Sent : List Message → Option Bench → Type 0
 Sent ms none = Unit {0}
 Sent ms (some b) = There ms b
 
+told-places : (f : Forward) (us : List ℕ) → each 2 us ≡ map placeOf (map (tell f) us)
+unfolding each placeOf
+told-places f [] = refl
+told-places f (u ∷ us) = ap (λ (l : List Place). place 2 u ∷ l) (told-places f us)
+
 tells-there : (f : Forward) (us : List ℕ) (n : ℕ) (b : Bench) → n ≤ 64 → Rising 0 n us → map (lastAt b) (each 2 us) ≡ map some (map (tell f) us) → There (map (tell f) us) b
 unfolding sentOn placesOf
-tells-there f [] n b h r e = refl
-tells-there f (u ∷ us) n b h r e = rw (told-mask f (u ∷ us), members-mask (u ∷ us) n h r) e
+tells-there f [] n b h r e = record { places = refl; last = refl }
+tells-there f (u ∷ us) n b h r e =
+    record { places = rw (told-mask f (u ∷ us), members-mask (u ∷ us) n h r) (told-places f (u ∷ us)); last = rw (told-mask f (u ∷ us), members-mask (u ∷ us) n h r) e }
 
 pub silent-there : (b : Bench) → There [] b
 unfolding sentOn placesOf
-silent-there b = refl
+silent-there b = record { places = refl; last = refl }
 
 asks-there : (b : Bench) (n t : ℕ) (m : Request) → n ≤ 64 → t < n → lastAt b (place 1 t) ≡ some (onNoc1 t m) → There (onNoc1 t m ∷ []) b
-unfolding sentOn sentTo placesOf each
-asks-there b n t m s below e = rw (one-member n t s below, e)
+unfolding sentOn sentTo placesOf placeOf each
+asks-there b n t m s below e = record { places = rw (one-member n t s below); last = rw (one-member n t s below, e) }
 
 replies-there : (b : Bench) (n t : ℕ) (m : Reply) → n ≤ 64 → t < n → lastAt b (place 3 t) ≡ some (onNoc3 t m) → There (onNoc3 t m ∷ []) b
-unfolding sentOn sentTo placesOf each
-replies-there b n t m s below e = rw (one-member n t s below, e)
+unfolding sentOn sentTo placesOf placeOf each
+replies-there b n t m s below e = record { places = rw (one-member n t s below); last = rw (one-member n t s below, e) }
 
 add-again : (t : ℕ) → add (add 0 t) t ≡ add 0 t
 unfolding add
 add-again t = ap (λ (b : Bool). cond b (add 0 t) (add 0 t + 2 ^ t)) (has-add 0 t)
 
 writes-there : (b : Bench) (n t : ℕ) (m : Reply) (g : Request) → n ≤ 64 → t < n → lastAt b (place 3 t) ≡ some (onNoc3 t m) → lastAt b (place 1 t) ≡ some (onNoc1 t g) → There (onNoc3 t m ∷ onNoc1 t g ∷ []) b
-unfolding sentOn sentTo placesOf both
-writes-there b n t m g s below e d = rw (add-again t, one-member n t s below, e, d)
+unfolding sentOn sentTo placesOf placeOf both
+writes-there b n t m g s below e d = record { places = rw (add-again t, one-member n t s below); last = rw (add-again t, one-member n t s below, e, d) }
 
 pub all-sent : (b : Bench) (n : ℕ) → n ≡ length (tilesOf b) → n ≤ 64 → (ms : List Message) → Shape n ms → Sent ms (send ms (some b))
 unfolding send sendTo sendOne
@@ -172,12 +174,12 @@ all-sent (benchOf h l k mem out back ts) n e s ms (replies t m below) =
 all-sent (benchOf h l k mem out back ts) n e s ms (writesBack t m g below) =
     on3 m (tileAt ts t) (λ o. Sent (onNoc3 t m ∷ onNoc1 t g ∷ []) (sendTo (onNoc1 t g) (Option·map (λ (x : Tile). benchOf h l k mem out back (set ts t x)) o))) tt
     (λ y q.
-      let inside : t < length (set ts t y) = rw (length-set ts t y) (omega arith) in
-      on1 g (tileAt (set ts t y) t) (λ o. Sent (onNoc3 t m ∷ onNoc1 t g ∷ []) (Option·map (λ (x : Tile). benchOf h l k mem out back (set (set ts t y) t x)) o)) tt
-      (λ z p same.
-        writes-there (benchOf h l k mem out back (set (set ts t y) t z)) n t m g s below
-        (last3 h l k mem out back (set ts t y) t m z inside (ap lastOf (same ∙ ap noc3 (getD-set-same ts t y freshTile (omega arith))) ∙ q))
-        (last1 h l k mem out back (set ts t y) t g z inside p)))
+    let inside : t < length (set ts t y) = rw (length-set ts t y) (omega arith) in
+    on1 g (tileAt (set ts t y) t) (λ o. Sent (onNoc3 t m ∷ onNoc1 t g ∷ []) (Option·map (λ (x : Tile). benchOf h l k mem out back (set (set ts t y) t x)) o)) tt
+    (λ z p same.
+    writes-there (benchOf h l k mem out back (set (set ts t y) t z)) n t m g s below
+    (last3 h l k mem out back (set ts t y) t m z inside (ap lastOf (same ∙ ap noc3 (getD-set-same ts t y freshTile (omega arith))) ∙ q))
+    (last1 h l k mem out back (set ts t y) t g z inside p)))
 all-sent (benchOf h l k mem out back ts) n e s ms (tells us f r) = go (send (map (tell f) us) (some (benchOf h l k mem out back ts))) (told h l k mem out back f us ts 0 n e r)
   where
     go : (o : Option Bench) → Kept h l k mem out back 0 us f ts o → Sent (map (tell f) us) o
@@ -196,4 +198,4 @@ given-all (m ∷ ms) = ap (λ (l : List Message). m ∷ l) (given-all ms)
 
 pub there-messages : (ms : List Message) (b : Bench) → There ms b → messagesAt (sentOn ms) (sentTo ms) b ≡ ms
 unfolding messagesAt
-there-messages ms b e = ap given e ∙ given-all ms
+there-messages ms b e = ap given (e .last) ∙ given-all ms

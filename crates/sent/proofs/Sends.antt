@@ -15,9 +15,9 @@ use Rattle.protocol.specs.Home.{Move, move, members, grantShared, grantOwner, a
 use Rattle.protocol.specs.Bench as bench
 use Rattle.protocol.specs.Bench.{freshTile, tileAt, front, rest, send, sent, posted, kindOf, settle, atTile, atWord, noc1, noc3, popNoc1, popNoc3, served, take, takeFrom, takingOn, writtenBack, moved, accept, fromTileOn, memoryServes, memoryStepOn, acceptAck, memoryAckOn, homeEvictionOn, step, arbitrate}
 use Rattle.codec.specs.Sent.{sentOn, sentTo}
-use Rattle.sent.specs.Places.{lastAt, placesOf, messagesAt, OwnerIn, HomeNames, NamesTiles}
+use Rattle.sent.specs.Places.{messagesAt, There, OwnerIn, HomeNames, NamesTiles}
 use Rattle.sent.proofs.Rising.{Rising, members-rising}
-use Rattle.sent.proofs.Last.{tilesOf, tell, Shape, silent, asks, replies, writesBack, tells, files, answers, There, Sent, all-sent, silent-there, there-messages}
+use Rattle.sent.proofs.Last.{tilesOf, tell, Shape, silent, asks, replies, writesBack, tells, files, answers, Sent, all-sent, silent-there, there-messages}
 
 -- ---- what each rule sends
 
@@ -235,6 +235,7 @@ take-from (some t) x k mem out back ts s own = go (ltb t (length ts)) refl
   where
     past : length ts ≤ t → Tell (take t (front (noc1 (tileAt ts t))) x k mem out back (set ts t (popNoc1 (tileAt ts t))))
     past h = rw (past-tile ts t h) tt
+
     go : (b : Bool) → ltb t (length ts) ≡ b → Tell (take t (front (noc1 (tileAt ts t))) x k mem out back (set ts t (popNoc1 (tileAt ts t))))
     go true e =
         let same : length ts ≡ length (set ts t (popNoc1 (tileAt ts t))) = sym (length-set ts t (popNoc1 (tileAt ts t))) in
@@ -298,11 +299,10 @@ step-tells memoryAck h l k mem out back ts s r = ack-tells (front back) h l k me
 step-tells homeEviction h l k mem out back ts s r = eviction-tells h l k mem out back ts s r
 
 -- The messages of an accepted step are, one by one, the last on the queues that their two numbers give, in the bench after it ..
-pub there : (c : Call) (b : Bench) → NamesTiles b → (k v : ℕ) (b′ : Bench) (ms : List Message) → step c b ≡ accepted k v b′ ms
-    → map (lastAt b′) (placesOf (sentOn ms) (sentTo ms)) ≡ map some ms
-there c (benchOf h l m mem out back ts) names k v b′ ms e = subst Tell e (step-tells c h l m mem out back ts (names .0) (names .1))
+pub sent-there : (c : Call) (b : Bench) → NamesTiles b → (k v : ℕ) (b′ : Bench) (ms : List Message) → step c b ≡ accepted k v b′ ms → There ms b′
+sent-there c (benchOf h l m mem out back ts) names k v b′ ms e = subst Tell e (step-tells c h l m mem out back ts (names .0) (names .1))
 
 -- .. and so they are the messages read there, in their order.
 pub sent-messages : (c : Call) (b : Bench) → NamesTiles b → (k v : ℕ) (b′ : Bench) (ms : List Message) → step c b ≡ accepted k v b′ ms
     → messagesAt (sentOn ms) (sentTo ms) b′ ≡ ms
-sent-messages c b names k v b′ ms e = there-messages ms b′ (there c b names k v b′ ms e)
+sent-messages c b names k v b′ ms e = there-messages ms b′ (sent-there c b names k v b′ ms e)

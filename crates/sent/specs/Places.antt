@@ -1,5 +1,6 @@
 -- The messages that a call sent, read out of the bench after it: each is the last on its queue. On which queues, and of which
 -- tiles, an answer says in two numbers (codec, specs/Sent).
+use mathlib.Core.Path.{_≡_}
 use Prim.Native.Nat.{ℕ, _≤_, _<_}
 use mathlib.Core.Bool.{Bool, cond, true, false}
 use mathlib.Core.List.{List, [], _∷_, map}
@@ -9,6 +10,7 @@ use lib.ListN.{length}
 use Rattle.protocol.specs.Parts.{Queue, empty, one, two, Request, Forward, Reply, Message, onNoc1, onNoc2, onNoc3, toMemory, fromMemory, Tile, tileOf, Directory, uncached, sharedBy, ownedBy, Line, absent, present, Cause, request, eviction, Clearing, clearForStore, clearForEviction, Home, idle, awaitingLoad, awaitingOwner, awaitingAcks, awaitingStore, Bench, benchOf}
 use Rattle.protocol.specs.Home.{members}
 use Rattle.protocol.specs.Bench.{tileAt, noc1, noc3}
+use Rattle.codec.specs.Sent.{sentOn, sentTo}
 use Rattle.sent.specs.declared.Place.{Place}
 
 abbrev pub place : ℕ → ℕ → Place
@@ -55,6 +57,14 @@ lastAt (benchOf h l k mem out back ts) p =
     (cond (eqb (p .queue) 3) (Option·map (onNoc3 (p .tile)) (lastOf (noc3 (tileAt ts (p .tile)))))
     (cond (eqb (p .queue) 4) (Option·map toMemory (lastOf out)) (cond (eqb (p .queue) 5) (Option·map fromMemory (lastOf back)) none))))
 
+-- the queue that takes a message
+unfoldable pub placeOf : Message → Place
+placeOf (onNoc1 t m) = place 1 t
+placeOf (onNoc2 t m) = place 2 t
+placeOf (onNoc3 t m) = place 3 t
+placeOf (toMemory m) = place 4 0
+placeOf (fromMemory m) = place 5 0
+
 -- those that are there
 unfoldable pub given : List (Option Message) → List Message
 given [] = []
@@ -64,6 +74,11 @@ given (some m ∷ ms) = m ∷ given ms
 -- the messages of an answer: sent on s, to the tiles m
 unfoldable pub messagesAt : ℕ → ℕ → Bench → List Message
 messagesAt s m b = given (map (lastAt b) (placesOf s m))
+
+-- The messages ms were sent on the queues that their two numbers give, in this order, and are the last on them in the bench b.
+pub record There (ms : List Message) (b : Bench) : Type 0 where
+  pub places : placesOf (sentOn ms) (sentTo ms) ≡ map placeOf ms
+  pub last : map (lastAt b) (placesOf (sentOn ms) (sentTo ms)) ≡ map some ms
 
 -- The tiles to which the home may send are tiles of a bench of n: the owner that it may ask, the requester that it may grant.
 abbrev pub OwnerIn : ℕ → Line → Type 0
