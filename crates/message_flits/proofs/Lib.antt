@@ -1,0 +1,3 @@
+pub mod Count
+pub mod Accepted
+pub mod ReadsBack
