@@ -8,5 +8,6 @@ pub mod Finished
 pub mod Commits
 pub mod Searched
 pub mod HomeCalls
+pub mod Started
 pub mod RoundTrip
 pub mod Demand3

@@ -5,7 +5,8 @@ use mathlib.Core.Bool.{Bool, cond, true, false, _&&_}
 use mathlib.Core.List.{List}
 use native.Mathlib.Omega.{arith}
 use Rattle.words.specs.declared.Row.{Row}
-use Rattle.bench.specs.Post.{oneRoom, rooms, tellOne, tellAll, canTake, firstFrom}
+use Rattle.words.specs.Blocks.{over, tileWords}
+use Rattle.bench.specs.Post.{oneRoom, rooms, tellOne, tellAll, canTake, firstFrom, freshTileBlock, freshTiles}
 
 one-more : (i n : ℕ) → i < n → n - i ≡ suc (n - (i + 1))
 one-more i n h = omega arith
@@ -45,3 +46,12 @@ module _ (l : List ℕ) (k i n : ℕ) where
   pub first-end : n ≤ 0 → firstFrom l k i n ≡ 64
   unfolding firstFrom
   first-end h = let e : n ≡ 0 = omega arith in ap (firstFrom l k i) e
+
+module _ (l : List ℕ) (at n : ℕ) where
+  pub fresh-turn : 0 < n → freshTiles l at n ≡ freshTiles (over l at (tileWords freshTileBlock)) (at + 84) (n - 1)
+  unfolding freshTiles
+  fresh-turn h = let e : n ≡ suc (n - 1) = omega arith in ap (freshTiles l at) e
+
+  pub fresh-end : n ≤ 0 → freshTiles l at n ≡ l
+  unfolding freshTiles
+  fresh-end h = let e : n ≡ 0 = omega arith in ap (freshTiles l at) e

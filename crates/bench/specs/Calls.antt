@@ -10,8 +10,8 @@ use Rattle.codec.specs.Encode.{encode}
 use Rattle.codec.specs.Decode.{decoded}
 use Rattle.codec.specs.Same.{tileOk, homeOk}
 use Rattle.codec.specs.Sent.{sentOn, sentTo}
-use Rattle.protocol.specs.Parts.{Bench, Call, load, store, evict, toTile, memoryStep, memoryAck, homeEviction, Result, refused, accepted}
-use Rattle.protocol.specs.Bench.{step}
+use Rattle.protocol.specs.Parts.{Words, Bench, Call, load, store, evict, toTile, memoryStep, memoryAck, homeEviction, Result, refused, accepted}
+use Rattle.protocol.specs.Bench.{fresh, step}
 use Rattle.bench.specs.declared.Answer.{Answer}
 
 -- the words that n tiles need
@@ -55,3 +55,12 @@ tileCall c t w v = cond (eqb c 0) (load t w) (cond (eqb c 1) (store t w v) (cond
 -- the calls at the home alone, by number: 0 memory step, 1 memory ack, else home eviction
 unfoldable pub homeCall : ℕ → Call
 homeCall c = cond (eqb c 0) memoryStep (cond (eqb c 1) memoryAck homeEviction)
+
+-- Start, of n tiles with the memory's words: 2, tile count not 1 to 64, then 1 by the number of words alone. It writes exactly the
+-- words that n tiles need.
+unfoldable pub startOn : List ℕ → ℕ → Words → Result Bench
+startOn l n mem = cond (ltb 0 n) (cond (leb n 64) (cond (leb (need n) (length l)) (accepted 0 0 (fresh n mem) []) (refused 1)) (refused 2)) (refused 2)
+
+unfoldable pub wordsStarted : List ℕ → ℕ → Result Bench → List ℕ
+wordsStarted l n (refused k) = l
+wordsStarted l n (accepted k v b ms) = encode b ++ drop (need n) l

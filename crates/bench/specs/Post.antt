@@ -8,8 +8,10 @@ use lib.Dec.{eqb, ltb}
 use lib.ListN.{length, getD}
 use Rattle.bits.specs.Mask.{has, add64}
 use Rattle.words.specs.declared.Row.{Row}
+use Rattle.words.specs.declared.Pair.{Pair}
 use Rattle.words.specs.declared.TileBlock.{TileBlock}
 use Rattle.words.specs.Blocks.{tileAt, tileWords, homeWords, over, HomeFull}
+use Rattle.codec.specs.Encode.{row, noRow}
 use Rattle.tile_steps.specs.Steps.{room, push, pop, headed}
 use Rattle.words.specs.declared.HomeBlock.{HomeBlock}
 use Rattle.home_steps.specs.declared.HomeStep.{HomeStep}
@@ -75,3 +77,18 @@ pub record Committed (l k : List ℕ) (n v : ℕ) (s : HomeStep) (P : Type 0) (a
 -- the calls at the home alone, by number: 0 memory step, 1 memory ack, else home eviction
 unfoldable pub homeStepOn : ℕ → HomeBlock → HomeStep
 homeStepOn c x = cond (eqb c 0) (memoryStep x) (cond (eqb c 1) (memoryAck x) (evictLine x))
+
+-- the blocks of a fresh bench
+abbrev pub noPair : Pair
+noPair = record { a = noRow; b = noRow }
+
+abbrev pub freshBlock : ℕ → List ℕ → HomeBlock
+freshBlock n mem = record { tiles = n; phase = 0; line = noRow; control = row (n - 1) 0 0 0 mem; out = noPair; back = noPair }
+
+abbrev pub freshTileBlock : TileBlock
+freshTileBlock = record { head = noRow; noc1 = noPair; noc2 = noPair; noc3 = noPair }
+
+-- n fresh tiles from place `at` on
+unfoldable pub freshTiles : List ℕ → ℕ → ℕ → List ℕ
+freshTiles l at ℕ.zero = l
+freshTiles l at (suc n) = freshTiles (over l at (tileWords freshTileBlock)) (at + 84) n

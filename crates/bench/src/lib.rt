@@ -8,11 +8,12 @@ ghost use lib.ListN.{length, getD};
 ghost use Rattle.protocol.specs.Parts.{load, store, evict, taking, toTile, fromTile, memoryStep, memoryAck, homeEviction};
 ghost use Rattle.words.specs.Blocks.{tileAt, over, tileWords, homeWords, TileFull, HomeFull};
 ghost use Rattle.codec.specs.Same.{tileOk};
-ghost use Rattle.bench.specs.Post.{oneRoom, rooms, toldTile, tellOne, tellAll, canTake, firstFrom, choice, popped1, popped3, homeAnswer, Committed, homeStepOn};
-ghost use Rattle.bench.specs.Calls.{need, tilesOk, wellFormed, stepOn, answerOf, wordsAfter, refusal, tileCall, homeCall};
+ghost use Rattle.bench.specs.Post.{oneRoom, rooms, toldTile, tellOne, tellAll, canTake, firstFrom, choice, popped1, popped3, homeAnswer, Committed, homeStepOn, noPair, freshBlock, freshTileBlock, freshTiles};
+ghost use Rattle.bench.specs.Calls.{need, tilesOk, wellFormed, stepOn, answerOf, wordsAfter, refusal, tileCall, homeCall, startOn, wordsStarted};
 use home_steps::HomeStep;
 use tile_steps::TileStep;
 use words::HomeBlock;
+use words::Pair;
 use words::Row;
 use words::TileBlock;
 
@@ -436,5 +437,75 @@ pub fn taking(w: &mut [u64]) -> Answer
         }
     } else {
         refused(1)
+    }
+}
+
+fn no_pair() -> Pair
+    ensures { λ r. ⌜ r ≡ noPair ⌝ }
+{
+    Pair {
+        a: tile_steps::bare(0, 0, 0, 0),
+        b: tile_steps::bare(0, 0, 0, 0),
+    }
+}
+
+fn fresh_block(n: u64, memory: [u64; 8]) -> HomeBlock
+    requires { ⌜ 0 < n ⌝ }
+    ensures { λ r. ⌜ r ≡ freshBlock n memory ⌝ }
+{
+    HomeBlock {
+        tiles: n,
+        phase: 0,
+        line: tile_steps::bare(0, 0, 0, 0),
+        control: tile_steps::row(n - 1, 0, 0, 0, memory),
+        out: no_pair(),
+        back: no_pair(),
+    }
+}
+
+fn fresh_tile_block() -> TileBlock
+    ensures { λ r. ⌜ r ≡ freshTileBlock ⌝ }
+{
+    tile_steps::headed(
+        tile_steps::bare(0, 0, 0, 0),
+        no_pair(),
+        no_pair(),
+        no_pair(),
+    )
+}
+
+fn fresh_tiles(w: &mut [u64], n: u64)
+    requires { ⌜ (need n ≤ length (now w)) × (n ≤ 64) ⌝ }
+    ensures { λ _. ⌜ now (w .exit) ≡ freshTiles (now (w .entry)) 74 n ⌝ }
+{
+    let mut at: usize = 74;
+    let mut left = n;
+    while 0 < left {
+        words::write_tile(w, at, fresh_tile_block());
+        at = at + 84;
+        left = left - 1;
+    }
+}
+
+// A fresh bench of n tiles with the given memory words.
+pub fn start(w: &mut [u64], n: u64, memory: [u64; 8]) -> Answer
+    ensures answer { λ r. ⌜ r ≡ answerOf (startOn (now (w .entry)) n memory) ⌝ }
+    ensures words { λ _. ⌜ now (w .exit) ≡ wordsStarted (now (w .entry)) n (startOn (now (w .entry)) n memory) ⌝ }
+{
+    if 0 < n {
+        if n <= 64 {
+            let enough = 74 + 84 * (n as usize);
+            if enough <= w.len() {
+                words::write_home(w, fresh_block(n, memory));
+                fresh_tiles(w, n);
+                accepted(0, 0, 0, 0)
+            } else {
+                refused(1)
+            }
+        } else {
+            refused(2)
+        }
+    } else {
+        refused(2)
     }
 }

@@ -1,0 +1,19 @@
+use mathlib.Core.Path.{refl}
+use borrow.Author.Tests.{eq-eqb, ne-eqb, lt-ltb, le-ltb, le-leb, lt-leb}
+use borrow.Author.Needs.{needs}
+use Rattle.bench.proofs.fresh_tile_block.Statement.{statement}
+use Rattle.bench.proofs.fresh_tile_block.Tie as tie
+
+returns : tie.Need-returns
+returns c = simp (c .headed .ensures, c .before .no-pair3 .ensures, c .before .before .no-pair2 .ensures, c .before .before .before .no-pair .ensures, c .before .before .before .before .bare .ensures)
+
+pub fresh-tile-block-spec : {M : Type 1} → statement M
+fresh-tile-block-spec =
+    tie.close
+    (tie.spec
+    (λ c κs. search needs)
+    (λ c κs. search needs)
+    (λ c κs. search needs)
+    (λ c κs. search needs)
+    (λ c κs. search needs)
+    returns)
