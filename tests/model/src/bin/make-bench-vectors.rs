@@ -346,7 +346,7 @@ fn ranges(v: &mut Vectors) {
     }
     v.remark("tiles out of range");
     for b in [fresh(1), rich()] {
-        for tile in [b.tile_count, 63, 64, 255, 256, 1 << 32, MAX] {
+        for tile in [b.tile_count, 64, 1 << 32, MAX] {
             for call in all_calls(tile, 0).into_iter().take(6).filter(|&c| c != Call::Arbitrate) {
                 v.bench(&b, call, 2);
             }
@@ -681,8 +681,12 @@ fn directories() -> Vec<Home> {
     let base = fresh(2).home;
     let line = Home { valid: 1, words: LINE, ..base };
     let mut all = vec![base, Home { directory: I, ..line }];
-    all.extend((0..4).map(|sharers| Home { directory: S, sharers, ..line }));
-    all.extend((0..2).map(|owner| Home { directory: E, owner, dirty: owner, ..line }));
+    for sharers in 0..4 {
+        all.push(Home { directory: S, sharers, ..line });
+    }
+    for owner in 0..2 {
+        all.push(Home { directory: E, owner, dirty: owner, ..line });
+    }
     all
 }
 
@@ -737,7 +741,7 @@ fn takings(v: &mut Vectors) {
     v.bench(&b, Call::Arbitrate, 0);
 }
 
-/// Every phase and directory that go together, with the tiles owed where some may be; tile 0 is the requester.
+/// Every phase and directory that go together, S with both tiles, and every set of tiles owed; tile 0 is the requester.
 fn phases() -> Vec<Home> {
     let mut all = vec![];
     for home in directories() {
@@ -746,7 +750,8 @@ fn phases() -> Vec<Home> {
                 for owed in 0..4 {
                     let mut b = fresh(2);
                     b.home = Home { phase, reason, owed, ..home };
-                    if b.well_formed() && !(phase == FOR_INVALIDATIONS && home.sharers != 3) {
+                    let told_apart = home.directory != S || home.sharers == 3;
+                    if told_apart && b.well_formed() {
                         all.push(b.home);
                     }
                 }
