@@ -104,7 +104,16 @@ fn call_on(w: &mut [u64], s: &[u64]) {
 
 fn start_on(w: &mut [u64], s: &[u64]) {
     formed(w);
-    let memory = [at(s, 3), at(s, 4), at(s, 5), at(s, 6), at(s, 7), at(s, 8), at(s, 9), at(s, 10)];
+    let memory = [
+        at(s, 3),
+        at(s, 4),
+        at(s, 5),
+        at(s, 6),
+        at(s, 7),
+        at(s, 8),
+        at(s, 9),
+        at(s, 10),
+    ];
     let a = bench::start(w, at(s, 2), memory);
     show(a);
 }
