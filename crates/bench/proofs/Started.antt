@@ -16,6 +16,7 @@ use Rattle.codec.specs.Sent.{sentOn, sentTo}
 use Rattle.bench.specs.declared.Answer.{Answer}
 use Rattle.bench.specs.Calls.{need, refusal, answerOf, startOn, wordsStarted}
 use Rattle.bench.specs.Post.{freshBlock, freshTileBlock, freshTiles}
+use Rattle.bench.specs.Runs.{startedWords}
 
 tile-fresh : encTile freshTile ≡ freshTileBlock
 unfolding encTile encHead encQueue stateNumber cacheWords waitingNumber waitingWord waitingValue
@@ -81,3 +82,8 @@ module _ (l : List ℕ) (n : ℕ) (mem : Words) where
   pub start-none : (a : Answer) → n ≤ 0 → a ≡ refusal 2 → Starts a l
   unfolding startOn answerOf wordsStarted
   start-none a p b = rw (le-ltb 0 n p) (b, refl)
+
+-- an accepted start leaves the words from which the list of calls begins (specs/Runs.antt)
+pub start-words : (l : List ℕ) (n : ℕ) (mem : Words) → 0 < n → n ≤ 64 → 74 + 84 * n ≤ length l → wordsStarted l n (startOn l n mem) ≡ startedWords n mem l
+unfolding startOn wordsStarted startedWords
+start-words l n mem p q e = rw (lt-ltb 0 n p, le-leb n 64 q, le-leb (need n) (length l) e)
