@@ -2,8 +2,8 @@
 //! with the proved crates. Numbers of the paper (refusals, types, states, tags) stay numbers here, so that a bench made
 //! by hand can hold any of them and the test of well-formedness judges it.
 //!
-//! Words of a lent bench: `Bench` holds every place of a bench as a plain number, and nothing else. A file that turns
-//! words into a `Bench` and back needs no change here; `Bench::well_formed` then judges what came out.
+//! Words of a lent bench: `Bench` holds every place of a bench as a plain number, and nothing else; `words` turns words
+//! into a `Bench` and back by docs/LAYOUT.md, and `Bench::well_formed` judges what came out.
 
 pub mod bench;
 pub mod flits;
@@ -13,6 +13,7 @@ pub mod program;
 pub mod random;
 pub mod steps;
 pub mod text;
+pub mod words;
 
 /// Refusal numbers of document 01.
 pub mod refusal {

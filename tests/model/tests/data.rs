@@ -1,8 +1,9 @@
-//! The data of tests/jobs are what the model makes of them today.
+//! The data of tests/jobs and the cases of crates/bench_vectors are what the model makes of them today.
 
 use model::{job, text};
 use std::fs;
 use std::path::Path;
+use std::process::Command;
 
 #[test]
 fn data_are_up_to_date() {
@@ -32,5 +33,15 @@ fn data_are_up_to_date() {
     assert_eq!(expected.lines().count(), whole.len());
     for (n, line) in expected.lines().enumerate() {
         assert_eq!(job::run(&whole[..n]).lines().next(), Some(line));
+    }
+}
+
+#[test]
+fn bench_vectors_are_up_to_date() {
+    let kept = Path::new(env!("CARGO_MANIFEST_DIR")).join("../../crates/bench_vectors");
+    let made = Path::new(env!("CARGO_TARGET_TMPDIR"));
+    assert!(Command::new(env!("CARGO_BIN_EXE_make-bench-vectors")).arg(made).status().unwrap().success());
+    for name in ["stdin", "stdout"] {
+        assert!(fs::read(kept.join(name)).unwrap() == fs::read(made.join(name)).unwrap(), "{name}");
     }
 }

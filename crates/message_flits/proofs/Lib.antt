@@ -1,0 +1,4 @@
+pub mod Count
+pub mod Accepted
+pub mod ReadsBack
+pub mod Beats

@@ -1,0 +1,4 @@
+pub mod Rising
+pub mod Last
+pub mod Sends
+pub mod Members
