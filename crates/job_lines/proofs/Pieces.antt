@@ -51,34 +51,35 @@ rest-done line l ps before at b p i e r =
 
 -- ---- the flits of a message in a buffer of eleven
 
-module _ (h : Header) (ws b : List ℕ) (eleven : length b ≡ 11) where
+module _ (h : Header) (ws : List ℕ) where
   abbrev n : ℕ
   n = extra (rowOf (h .opcode)) + length ws + 1
 
-  fits : (len : ℕ) → writeRefusal h (length ws) len 0 ≡ 0 → n ≤ len
+  pub fits : (len : ℕ) → writeRefusal h (length ws) len 0 ≡ 0 → n ≤ len
   unfolding writeRefusal
   fits len e =
       let t = leb-true (0 + n) len (holds (refusals (rowOf (h .opcode)) h (length ws) len 0) tt e 4) in
       omega arith
 
-  flits-length : length (flitsOf h ws) ≡ n
+  pub flits-length : length (flitsOf h ws) ≡ n
   unfolding flitsOf
   flits-length = simp (length-append, header-length) (omega arith)
 
+module _ (h : Header) (ws b : List ℕ) (eleven : length b ≡ 11) where
   pub written-le : writtenOf h (length ws) (length b) 0 .flits ≤ 11
   unfolding writtenOf
   written-le = go (eqb (writeRefusal h (length ws) (length b) 0) 0) refl
     where
-      go : (t : Bool) → eqb (writeRefusal h (length ws) (length b) 0) 0 ≡ t → cond t n 0 ≤ 11
-      go true e = let f = fits (length b) (eqb-true _ _ e) in omega arith
+      go : (t : Bool) → eqb (writeRefusal h (length ws) (length b) 0) 0 ≡ t → cond t (n h ws) 0 ≤ 11
+      go true e = let f = fits h ws (length b) (eqb-true _ _ e) in omega arith
       go false e = omega arith
 
   pub written-take : take (writtenOf h (length ws) (length b) 0 .flits) (bufferOf h ws b 0) ≡ cond (eqb (writeRefusal h (length ws) 11 0) 0) (flitsOf h ws) []
   unfolding writtenOf bufferOf over
   written-take = rw eleven (go (eqb (writeRefusal h (length ws) 11 0) 0))
     where
-      go : (t : Bool) → take (cond t n 0) (cond t (take 0 b ++ (flitsOf h ws ++ drop (0 + length (flitsOf h ws)) b)) b) ≡ cond t (flitsOf h ws) []
-      go true = rw (← flits-length) (take-at (flitsOf h ws) _ (length (flitsOf h ws)) refl)
+      go : (t : Bool) → take (cond t (n h ws) 0) (cond t (take 0 b ++ (flitsOf h ws ++ drop (0 + length (flitsOf h ws)) b)) b) ≡ cond t (flitsOf h ws) []
+      go true = rw (← flits-length h ws) (take-at (flitsOf h ws) _ (length (flitsOf h ws)) refl)
       go false = refl
 
 module _ (line : ℕ) (m : Sent) (b after : List ℕ) (r : Written) (eleven : length b ≡ 11) (done : (r ≡ writtenOf (fieldsOf line (m .queue) (m .tile) (m .row)) (length (wordsOf (m .row))) (length b) 0) × (after ≡ bufferOf (fieldsOf line (m .queue) (m .tile) (m .row)) (wordsOf (m .row)) b 0)) where

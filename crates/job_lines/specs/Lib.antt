@@ -1,2 +1,4 @@
 pub mod Pieces
 pub mod Listing
+pub mod Rules
+pub mod Whole

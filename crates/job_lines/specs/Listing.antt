@@ -17,7 +17,8 @@ use Rattle.listing.specs.Lines.{benchLine, callLine, messageLine, endLine}
 use Rattle.job_format.specs.Job.{tilesOf, addressOf, memoryOf, callsOf}
 use Rattle.jobs.specs.Run.{benchCall}
 
--- the flits of a message that was sent, of the line with this address; a message of a bench is never refused
+-- the flits of a message that was sent, of the line with this address; none where the flit crate refuses it, which it does for no
+-- message in range (message_flits, reads-back)
 unfoldable pub sentFlits : ℕ → Sent → List ℕ
 sentFlits line m =
     cond (eqb (writeRefusal (fieldsOf line (m .queue) (m .tile) (m .row)) (length (wordsOf (m .row))) 11 0) 0)

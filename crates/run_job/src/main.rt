@@ -16,10 +16,10 @@ fn refused(number: u64, offset: usize) {
     show(&out, p);
 }
 
-// Where the next call's lines start: at 0, once what is there was printed, if they might not fit behind it. A call's lines are at most
-// 4,096 bytes: 63 messages of three flits, or two, of at most eleven.
+// Where the next lines start: at 0, once what is there was printed, if they might not fit behind it. A call's lines are at most 12,180
+// bytes (job_lines, Room-statement).
 fn room(out: &[u8], p: usize) -> usize {
-    if p <= 61440 {
+    if p <= 53248 {
         p
     } else {
         show(out, p);

@@ -1,0 +1,35 @@
+-- The listing of a job by 01's rules alone: its calls as steps of a fresh bench, each with the messages that the step sends.
+use Prim.Native.Nat.{ℕ, _+_}
+use mathlib.Core.Path.{_≡_}
+use mathlib.Core.List.{List, [], _∷_, _++_, map}
+use Rattle.protocol.specs.Parts.{Message, Bench, Call, Result, refused, accepted}
+use Rattle.protocol.specs.Bench.{fresh, step}
+use Rattle.protocol.specs.Demand3.{after}
+use Rattle.messages.specs.Rows.{sentOf}
+use Rattle.listing.specs.Lines.{benchLine, callLine, endLine}
+use Rattle.job_format.specs.Job as job
+use Rattle.job_format.specs.Job.{checkJob, tilesOf, addressOf, memoryOf, callsOf}
+use Rattle.jobs.specs.Run.{benchCall}
+use Rattle.job_lines.specs.Listing.{sentLine, listingOf}
+
+-- one line for each message, in the order of sending
+unfoldable pub messageLines : ℕ → List Message → List (List ℕ)
+messageLines line [] = []
+messageLines line (m ∷ ms) = sentLine line (sentOf m) ∷ messageLines line ms
+
+-- call number n: a refusal has kind and value 0 and sends nothing
+unfoldable pub resultLines : ℕ → ℕ → Result Bench → List (List ℕ)
+resultLines line n (refused r) = callLine n r 0 0 ∷ []
+resultLines line n (accepted k v b ms) = callLine n 0 k v ∷ messageLines line ms
+
+-- calls on the bench b, n calls made before them, and the last line
+unfoldable pub stepLines : ℕ → ℕ → List Call → Bench → List (List ℕ)
+stepLines line n [] b = endLine n ∷ []
+stepLines line n (c ∷ cs) b = resultLines line (n + 1) (step c b) ++ stepLines line (n + 1) cs (after c b)
+
+unfoldable pub ruleListing : List ℕ → List (List ℕ)
+ruleListing job = benchLine (tilesOf job) (addressOf job) ∷ stepLines (addressOf job) 0 (map benchCall (callsOf job)) (fresh (tilesOf job) (memoryOf job))
+
+-- Of an accepted job, whatever the lent words held: the listing on words is that of the rules.
+abbrev pub Rules-statement : Type 0
+Rules-statement = (bytes l : List ℕ) → checkJob bytes ≡ job.accepted → listingOf bytes l ≡ ruleListing bytes
