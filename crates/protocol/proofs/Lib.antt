@@ -20,3 +20,4 @@ pub mod Bound
 pub mod Quiet
 -- All together:
 pub mod Theorem
+pub mod Examples

@@ -1,0 +1,23 @@
+-- Steps of 01 that two tiles cannot show, computed. Assumes nothing.
+use Prim.Native.Nat.{ℕ}
+use mathlib.Core.Path.{_≡_, refl}
+use mathlib.Core.Bool.{cond, true, false}
+use mathlib.Core.List.{List, [], _∷_}
+use mathlib.Core.Option.{some, none}
+use Rattle.bits.specs.Mask.{has, add, del}
+use Rattle.protocol.specs.Parts.{Tile, tileOf, invalid, nothing, empty, one, loadReq, awaitingAcks, clearForEviction}
+use Rattle.protocol.specs.Home.{move, range, invAck}
+use Rattle.protocol.specs.Bench.{circle, firstOf, eligible, arbitrate}
+
+asking : Tile
+asking = tileOf invalid nothing (one (loadReq 0)) empty empty
+
+-- in circle order after the last taken, tile 0, tile 1 is the first of three that ask
+after-the-last : arbitrate 0 0 (asking ∷ asking ∷ asking ∷ []) ≡ some 1
+unfolding asking arbitrate circle range firstOf eligible
+after-the-last = refl
+
+-- of the tiles 0, 1 and 2 owed, tile 0 acknowledges: the mask stays, two are still owed, and nothing is sent
+mask-stays : invAck 0 (awaitingAcks false [] 7 7 clearForEviction) ≡ some (move (awaitingAcks false [] 7 6 clearForEviction) [])
+unfolding invAck has del
+mask-stays = refl
