@@ -10,7 +10,7 @@ use Rattle.protocol.specs.Demand3.{after, runs}
 use Rattle.codec.specs.Encode.{encode}
 use Rattle.codec.specs.Range.{InRange}
 use Rattle.codec.proofs.RangeKept.{after-in, fresh-in}
-use Rattle.bench.specs.Calls.{need, stepOn, answerOf, wordsAfter}
+use Rattle.bench_words.specs.Calls.{need, stepOn, answerOf, wordsAfter}
 use Rattle.bench.specs.Runs.{startedWords, answerTo, afterCall, callWords}
 use Rattle.bench.proofs.RoundTrip.{encodes}
 use Rattle.bench.proofs.Demand3.{calls-are-steps}

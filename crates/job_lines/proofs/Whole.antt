@@ -10,7 +10,7 @@ use lib.ListN.{length}
 use Rattle.lists.specs.Over.{bufferAfter, placeAfter, Placed, Put}
 use Rattle.lists.proofs.OverLaws.{over-nil, placed-put, placed-length, join}
 use Rattle.protocol.specs.Parts.{Call}
-use Rattle.bench.specs.Calls.{need, startOn, wordsStarted}
+use Rattle.bench_words.specs.Calls.{need, startOn, wordsStarted}
 use Rattle.bench.specs.Runs.{afterCall, startedWords}
 use Rattle.listing.specs.Lines.{benchLine, endLine}
 use Rattle.job_format.specs.Job as job

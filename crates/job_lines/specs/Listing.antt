@@ -5,7 +5,7 @@ use mathlib.Core.List.{List, [], _∷_, _++_, map}
 use lib.Dec.{eqb}
 use lib.ListN.{length}
 use Rattle.protocol.specs.Parts.{Call}
-use Rattle.bench.specs.declared.Answer.{Answer}
+use Rattle.bench_words.specs.declared.Answer.{Answer}
 use Rattle.bench.specs.Runs.{startedWords, answerTo, afterCall}
 use Rattle.sent.specs.declared.Place.{Place}
 use Rattle.sent.specs.Places.{placesOf}
