@@ -17,7 +17,7 @@ use Rattle.sent.specs.Places.{place, each, both, placesOf}
 use Rattle.messages.specs.declared.Sent.{Sent}
 use Rattle.messages.specs.Rows.{sentAt}
 use Rattle.message_flits.specs.Fields.{fieldsOf, wordsOf}
-use Rattle.flits.specs.Writing.{writeRefusal, flitsOf}
+use Rattle.flit_writing.specs.Writing.{writeRefusal, flitsOf}
 use Rattle.listing.specs.Lines.{digitByte, decimalFrom, decimal, callLine, messageLine}
 use Rattle.listing.proofs.LineLaws.{call-length, message-length}
 use Rattle.job_lines.specs.Pieces.{buffersAfter, placesAfter, AllPlaced}
