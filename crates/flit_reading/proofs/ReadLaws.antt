@@ -11,9 +11,9 @@ use lib.ListN.{length, take, drop, length-take, length-drop}
 use lib.Seq.{take-all}
 use borrow.Author.Tests.{ltb-true, eqb-true, eqb-false, ne-eqb, eq-eqb}
 use Rattle.flit_words.specs.Words.{lengthOf}
-use Rattle.flit_rules.specs.Table.{extra}
+use Rattle.flit_table.specs.Table.{extra}
 use Rattle.flit_rules.specs.Rules.{known, lengthAllowed, portsListed, reservedClear, allowed}
-use Rattle.flit_rules.proofs.Tests.{and-left, and-right}
+use Rattle.flit_table.proofs.Tests.{and-left, and-right}
 use Rattle.flit_rules.proofs.TableLaws.{row-lengths}
 use Rattle.flit_reading.specs.declared.Read.{Read}
 use Rattle.flit_reading.specs.Reading.{lowest, refusals, flit1, rowAt, flit2, flit3, headerAt, readRefusal, accepted, refused, readOf, dataOf}

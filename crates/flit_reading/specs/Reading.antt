@@ -6,9 +6,9 @@ use lib.Dec.{eqb, ltb}
 use lib.ListN.{length, getD, take, drop}
 use Rattle.flit_words.specs.declared.Node.{Node}
 use Rattle.flit_words.specs.declared.Header.{Header}
-use Rattle.flit_rules.specs.declared.Row.{Row}
+use Rattle.flit_table.specs.declared.Row.{Row}
 use Rattle.flit_words.specs.Words.{opcodeOf, lengthOf, headerOf}
-use Rattle.flit_rules.specs.Table.{rowOf, extra}
+use Rattle.flit_table.specs.Table.{rowOf, extra}
 use Rattle.flit_rules.specs.Rules.{known, lengthAllowed, portsListed, reservedClear, allowed}
 use Rattle.flit_reading.specs.declared.Read.{Read}
 

@@ -14,8 +14,8 @@ use borrow.Rule.Slice.PartMut.{putMid}
 use Rattle.flit_writing.specs.Writing.{over, headerFlits, refusals, writeRefusal, flitsOf, writtenOf, bufferOf}
 use Rattle.flit_reading.specs.Reading.{lowest}
 use Rattle.flit_reading.proofs.ReadLaws.{holds, rest-part}
-use Rattle.flit_rules.specs.declared.Row.{Row}
-use Rattle.flit_rules.specs.Table.{rowOf, extra}
+use Rattle.flit_table.specs.declared.Row.{Row}
+use Rattle.flit_table.specs.Table.{rowOf, extra}
 use Rattle.flit_words.specs.declared.Header.{Header}
 use Rattle.flit_words.specs.Words.{flit1Of, flit2Of, flit3Of}
 

@@ -5,9 +5,9 @@ use Prim.Native.Nat.{ℕ, _+_}
 use lib.Dec.{eqb, ltb, leb}
 use lib.ListN.{length, take, drop}
 use Rattle.flit_words.specs.declared.Header.{Header}
-use Rattle.flit_rules.specs.declared.Row.{Row}
+use Rattle.flit_table.specs.declared.Row.{Row}
 use Rattle.flit_words.specs.Words.{flit1Of, flit2Of, flit3Of}
-use Rattle.flit_rules.specs.Table.{rowOf, extra}
+use Rattle.flit_table.specs.Table.{rowOf, extra}
 use Rattle.flit_rules.specs.Rules.{known, lengthAllowed, portsListed, allowed}
 use Rattle.flit_writing.specs.declared.Written.{Written}
 use Rattle.flit_reading.specs.Reading.{lowest}

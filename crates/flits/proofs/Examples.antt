@@ -3,7 +3,7 @@ use mathlib.Core.Path.{_≡_, refl}
 use mathlib.Core.List.{List, [], _∷_}
 use Prim.Native.Nat.{ℕ}
 use Rattle.flit_words.specs.Words.{headerOf}
-use Rattle.flit_rules.specs.Table.{rowOf}
+use Rattle.flit_table.specs.Table.{rowOf}
 use Rattle.flit_rules.specs.Rules.{portsListed, reservedClear, allowed}
 use Rattle.flit_reading.specs.Reading.{noNode, readRefusal, accepted, refused, readOf, dataOf}
 

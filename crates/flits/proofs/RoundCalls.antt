@@ -10,7 +10,7 @@ use lib.Seq.{drop-at, length-take-le}
 use borrow.Author.Tests.{eq-eqb, ne-eqb, leb-true}
 use Rattle.flit_words.specs.declared.Header.{Header}
 use Rattle.flit_words.specs.Words.{headerOf}
-use Rattle.flit_rules.specs.Table.{rowOf, extra}
+use Rattle.flit_table.specs.Table.{rowOf, extra}
 use Rattle.flit_reading.specs.declared.Read.{Read}
 use Rattle.flit_writing.specs.declared.Written.{Written}
 use Rattle.flit_reading.specs.Reading.{rowAt, headerAt, readRefusal, answer, readOf, dataOf}

@@ -16,9 +16,9 @@ use lib.ListN.{length, getD, take, drop, length-append, List·getD-append}
 use lib.Seq.{take-add, take-at, drop-at}
 use borrow.Author.Tests.{lt-ltb, le-ltb, ltb-true, ltb-false}
 use Rattle.flit_words.specs.declared.Header.{Header}
-use Rattle.flit_rules.specs.declared.Row.{Row}
+use Rattle.flit_table.specs.declared.Row.{Row}
 use Rattle.flit_words.specs.Words.{lengthOf, opcodeOf, headerOf, flit1Of, flit2Of, flit3Of}
-use Rattle.flit_rules.specs.Table.{rowOf, extra}
+use Rattle.flit_table.specs.Table.{rowOf, extra}
 use Rattle.flit_rules.proofs.TableLaws.{row-lengths}
 use Rattle.flit_words.proofs.HeaderLaws.{HeaderFits, header-flits, length-flits, opcode-flits, flit1-header, flit2-header, flit3-header}
 use Rattle.flit_rules.proofs.RuleLaws.{reserved-zero, header-fits, flit2-none, flit3-none, written-clear}

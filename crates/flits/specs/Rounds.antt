@@ -5,7 +5,7 @@ use Prim.Native.Nat.{ℕ, _+_}
 use lib.Dec.{eqb, leb}
 use lib.ListN.{length, take}
 use Rattle.flit_words.specs.declared.Header.{Header}
-use Rattle.flit_rules.specs.Table.{rowOf, extra}
+use Rattle.flit_table.specs.Table.{rowOf, extra}
 use Rattle.flit_reading.specs.declared.Read.{Read}
 use Rattle.flit_writing.specs.declared.Written.{Written}
 use Rattle.flit_reading.specs.Reading.{readOf, readRefusal, accepted, refused}

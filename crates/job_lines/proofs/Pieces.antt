@@ -15,7 +15,7 @@ use Rattle.sent.specs.Places.{nowhere}
 use Rattle.messages.specs.declared.Sent.{Sent}
 use Rattle.messages.specs.Rows.{sentAt}
 use Rattle.flit_words.specs.declared.Header.{Header}
-use Rattle.flit_rules.specs.Table.{rowOf, extra}
+use Rattle.flit_table.specs.Table.{rowOf, extra}
 use Rattle.flit_writing.specs.Writing.{refusals, writeRefusal, flitsOf, over, writtenOf, bufferOf}
 use Rattle.flit_writing.specs.declared.Written.{Written}
 use Rattle.message_flits.specs.Fields.{fieldsOf, wordsOf}

@@ -12,7 +12,7 @@ use lib.Seq.{length-take-le, take-all, drop-at}
 use borrow.Author.Tests.{lt-ltb, le-leb, eq-eqb}
 use Rattle.flit_words.specs.declared.Header.{Header}
 use Rattle.flit_words.specs.Words.{bits}
-use Rattle.flit_rules.specs.Table.{rowOf, extra}
+use Rattle.flit_table.specs.Table.{rowOf, extra}
 use Rattle.flit_rules.specs.Rules.{portsListed, allowed}
 use Rattle.flit_writing.specs.Writing.{writeRefusal}
 use Rattle.words.specs.declared.Row.{Row}

@@ -1,6 +1,6 @@
 // The table by type number. Its rule, that each entry is the row that 01's lines give that type, is proved over all entries at once.
 ghost use mathlib.Core.Path.{_≡_};
-ghost use Rattle.flit_rules.specs.Table.{rowOf};
+ghost use Rattle.flit_table.specs.Table.{rowOf};
 use crate::Row;
 
 const ABSENT: Row = Row {

@@ -1,9 +1,9 @@
 use mathlib.Core.Path.{refl, sym}
-use Rattle.flit_rules.specs.Table.{rowOf}
-use Rattle.flit_rules.proofs.TableLaws.{entry, past}
+use Rattle.flit_table.specs.Table.{rowOf}
+use Rattle.flit_table.proofs.Entries.{entry, past}
 use borrow.Author.Needs.{needs}
-use Rattle.flit_rules.proofs.table.row.Statement.{statement}
-use Rattle.flit_rules.proofs.table.row.Tie as tie
+use Rattle.flit_table.proofs.table.row.Statement.{statement}
+use Rattle.flit_table.proofs.table.row.Tie as tie
 
 returns : tie.Need-returns
 unfolding rowOf

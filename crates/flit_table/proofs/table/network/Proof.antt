@@ -1,6 +1,6 @@
 use borrow.Author.Needs.{needs}
-use Rattle.flit_rules.proofs.table.network.Statement.{statement}
-use Rattle.flit_rules.proofs.table.network.Tie as tie
+use Rattle.flit_table.proofs.table.network.Statement.{statement}
+use Rattle.flit_table.proofs.table.network.Tie as tie
 
 returns : tie.Need-returns
 returns c =

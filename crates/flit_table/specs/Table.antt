@@ -3,7 +3,7 @@ use mathlib.Core.Bool.{Bool, true, false, cond, _||_}
 use mathlib.Core.List.{List, [], _∷_}
 use Prim.Native.Nat.{ℕ}
 use lib.Dec.{eqb}
-use Rattle.flit_rules.specs.declared.Row.{Row}
+use Rattle.flit_table.specs.declared.Row.{Row}
 
 -- three header flits: network, length, sizes from and to, vector, largest icache bit, line address or any
 abbrev pub three : ℕ → ℕ → ℕ → ℕ → ℕ → ℕ → Bool → Row
