@@ -25,8 +25,8 @@ use Rattle.codec.specs.Decode.{decTiles, decoded, benchFrom, decHome, decLine, 
 use Rattle.codec.proofs.Canonical.{homeFrom, home-canonical}
 use Rattle.tile_steps.specs.Steps.{room, pop, headed}
 use Rattle.tile_steps.proofs.Rules.{rest-queue}
-use Rattle.home_steps.specs.declared.HomeStep.{HomeStep}
-use Rattle.home_steps.specs.Numbers as numbers
+use Rattle.home_parts.specs.declared.HomeStep.{HomeStep}
+use Rattle.home_parts.specs.Numbers as numbers
 use Rattle.home_steps.specs.Rules.{HomeResult, spread, encStep, encFront, Sends, HomeIn, LineIn, takenHome, acceptedHome, steppedHome, ackedHome, evictedHome}
 use Rattle.home_steps.proofs.Steps.{first-row, take-is, accept-is, step-is, ack-is, evict-is}
 use Rattle.home_steps.proofs.Spread.{take-spread, accept-spread, step-spread, ack-spread, evict-spread}

@@ -8,8 +8,8 @@ use Rattle.find_first.specs.Next.{next}
 use Rattle.words.specs.declared.TileBlock.{TileBlock}
 use Rattle.words.specs.declared.HomeBlock.{HomeBlock}
 use Rattle.tile_steps.specs.Steps.{pop, headed}
-use Rattle.home_steps.specs.declared.HomeStep.{HomeStep}
-use Rattle.home_steps.specs.Numbers.{memoryStep, memoryAck, evictLine}
+use Rattle.home_parts.specs.declared.HomeStep.{HomeStep}
+use Rattle.home_parts.specs.Numbers.{memoryStep, memoryAck, evictLine}
 use Rattle.bench_words.specs.Survey.{canTake}
 
 -- the first of n tiles from tile i on that may be taken; 64 for none

@@ -17,7 +17,7 @@ use Rattle.protocol.specs.Bench.{freshTile, tileAt, step}
 use Rattle.codec.specs.Encode.{encTile, encode}
 use Rattle.codec.specs.Decode.{decTiles, decoded}
 use Rattle.tile_steps.specs.Steps.{room}
-use Rattle.home_steps.specs.declared.HomeStep.{HomeStep}
+use Rattle.home_parts.specs.declared.HomeStep.{HomeStep}
 use Rattle.home_steps.specs.Rules.{HomeResult, spread, encStep, Sends}
 use Rattle.bench_words.specs.declared.Answer.{Answer}
 use Rattle.bench_words.specs.Calls.{need, wellFormed, stepOn, answerOf, wordsAfter, refusal}

@@ -17,8 +17,8 @@ use Rattle.protocol.specs.Home.{range, among, members}
 use Rattle.protocol.specs.Bench.{sent, kindOf}
 use Rattle.codec.specs.Encode.{encForward, encHome, encode}
 use Rattle.codec.specs.Sent.{sentOn, sentTo}
-use Rattle.home_steps.specs.declared.HomeStep.{HomeStep}
-use Rattle.home_steps.specs.Numbers.{stop, tell}
+use Rattle.home_parts.specs.declared.HomeStep.{HomeStep}
+use Rattle.home_parts.specs.Numbers.{stop, tell}
 use Rattle.home_steps.specs.Rules.{HomeResult, stopped, went, spread, forwardAll, forwardTo, forwardOne, encStep, sentNumber, targets, forwardRow, told, Sends, refuses, silent, tells, files, answers}
 use Rattle.home_steps.proofs.Told.{add-small, told-targets, told-step}
 use Rattle.posts.specs.Post.{tellOne, tellAll}

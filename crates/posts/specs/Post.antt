@@ -10,7 +10,7 @@ use Rattle.words.specs.declared.Row.{Row}
 use Rattle.words.specs.declared.TileBlock.{TileBlock}
 use Rattle.words.specs.Blocks.{tileAt, tileWords, homeWords, over, HomeFull}
 use Rattle.tile_steps.specs.Steps.{room, push, headed}
-use Rattle.home_steps.specs.declared.HomeStep.{HomeStep}
+use Rattle.home_parts.specs.declared.HomeStep.{HomeStep}
 use Rattle.bench_words.specs.declared.Answer.{Answer}
 use Rattle.bench_words.specs.Calls.{refusal}
 
