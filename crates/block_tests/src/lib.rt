@@ -6,8 +6,8 @@ ghost use Prim.Native.Nat.{_+_, _%_, _^_, _≤_, _<_};
 ghost use lib.Dec.{eqb};
 ghost use lib.ListN.{length, getD};
 ghost use Rattle.words.specs.Blocks.{rowAt, pairAt, tileAt, homeAt};
-ghost use Rattle.codec.specs.Encode.{zeros, noRow, flag, rightNumber, encRequest, encForward, encReply, encToMemory, encFromMemory, encHead, stateNumber, cacheWords, waitingNumber, waitingWord, waitingValue, directoryNumber, directoryTiles, encLine, lineOf, phaseNumber, requester, owedTiles};
-ghost use Rattle.codec.specs.Decode.{isSet, decRight, decRequest, decForward, decReply, decToMemory, decFromMemory, decCache, decWaiting, decDirectory, decLine, decHome};
+ghost use Rattle.codec.specs.Encode.{zeros, noRow, flag, rightNumber, encRequest, encForward, encReply, encToMemory, encFromMemory, encHead, directoryNumber, directoryTiles, encLine, requester};
+ghost use Rattle.codec.specs.Decode.{isSet, decRight, decRequest, decForward, decReply, decToMemory, decFromMemory, decCache, decWaiting, decDirectory, decLine};
 ghost use Rattle.codec.specs.Same.{same, sameRow, samePair, canonQueue, tileOk, homeOk};
 ghost use Rattle.block_tests.specs.Parts.{clearBehind, bare, onlyData, ackDataOk, loadAckOk, storeAckOk, cacheOk, waitingOk, ownedOk, sharedOk, heldOk, phaseOk};
 
@@ -16,14 +16,7 @@ fn or8(w: &[u64], at: usize) -> u64
     requires { ⌜ at + 12 ≤ length (now w) ⌝ }
     ensures { λ r. ⌜ eqb r 0 ≡ same zeros (rowAt (now (w .entry)) at .words) ⌝ }
 {
-    w[at + 4]
-        | w[at + 5]
-        | w[at + 6]
-        | w[at + 7]
-        | w[at + 8]
-        | w[at + 9]
-        | w[at + 10]
-        | w[at + 11]
+    w[at + 4] | w[at + 5] | w[at + 6] | w[at + 7] | w[at + 8] | w[at + 9] | w[at + 10] | w[at + 11]
 }
 
 fn clear_data(w: &[u64], at: usize) -> bool

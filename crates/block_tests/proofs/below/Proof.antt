@@ -2,10 +2,7 @@ use mathlib.Core.Path.{sym}
 use Rattle.block_tests.proofs.Laws.{mod-below}
 use Rattle.block_tests.proofs.below.Statement.{statement}
 use Rattle.block_tests.proofs.below.Tie as tie
-use Rattle.block_tests.proofs.below.Reads as reads
-use Rattle.block_tests.proofs.below.Lts as lts
 
--- src/lib.rt:79:1
 returns : tie.Need-returns
 returns c = sym (mod-below (c .args .x) (c .args .n) (c .pre))
 

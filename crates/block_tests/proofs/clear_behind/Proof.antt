@@ -1,44 +1,10 @@
-use Rattle.block_tests.proofs.Laws.{and-true, and-false, and-assoc, zero-left, ne-left, or-clear, mod-below, same-self, or-eight}
-use mathlib.Core.Path.{refl}
-use borrow.Author.Tests.{eq-eqb, ne-eqb, lt-ltb, le-ltb, le-leb, lt-leb}
+use Rattle.block_tests.proofs.Laws.{and-assoc, zero-left, or-clear}
 use Rattle.block_tests.specs.Parts.{clearBehind}
 use Rattle.words.specs.Blocks.{rowAt}
 use borrow.Author.Needs.{needs}
 use Rattle.block_tests.proofs.clear_behind.Statement.{statement}
 use Rattle.block_tests.proofs.clear_behind.Tie as tie
-use Rattle.block_tests.proofs.clear_behind.Reads as reads
-use Rattle.block_tests.proofs.clear_behind.Lts as lts
-use Rattle.block_tests.proofs.or8.Reads as or8-reads
 
--- src/lib.rt:40:8
-add-result : tie.Need-add-result
-add-result c = search needs
-
--- src/lib.rt:40:6
-mul-result : tie.Need-mul-result
-mul-result c = search needs
-
--- src/lib.rt:40:6
-shared-slice-read-result : tie.Need-shared-slice-read-result
-shared-slice-read-result c = search needs
-
--- src/lib.rt:40:20
-add-result-2 : tie.Need-add-result-2
-add-result-2 c = search needs
-
--- src/lib.rt:40:18
-mul-result-2 : tie.Need-mul-result-2
-mul-result-2 c = search needs
-
--- src/lib.rt:40:18
-shared-slice-read-result-2 : tie.Need-shared-slice-read-result-2
-shared-slice-read-result-2 c = search needs
-
--- src/lib.rt:40:30
-or8-requires : tie.Need-or8-requires
-or8-requires c κs = search needs
-
--- src/lib.rt:36:1
 returns : tie.Need-returns
 unfolding clearBehind rowAt
 returns c = simp (c .or8 .ensures, or-clear, zero-left, and-assoc)
@@ -47,11 +13,11 @@ pub clear-behind-spec : {M : Type 1} → statement M
 clear-behind-spec =
     tie.close
     (tie.spec
-    add-result
-    mul-result
-    shared-slice-read-result
-    add-result-2
-    mul-result-2
-    shared-slice-read-result-2
-    or8-requires
+    (λ c. search needs)
+    (λ c. search needs)
+    (λ c. search needs)
+    (λ c. search needs)
+    (λ c. search needs)
+    (λ c. search needs)
+    (λ c κs. search needs)
     returns)

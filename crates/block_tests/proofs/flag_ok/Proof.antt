@@ -1,24 +1,18 @@
-use Rattle.block_tests.proofs.Laws.{and-true, and-false, and-assoc, zero-left, ne-left, or-clear, mod-below, same-self, or-eight}
-use mathlib.Core.Path.{refl}
-use borrow.Author.Tests.{eq-eqb, ne-eqb, lt-ltb, le-ltb, le-leb, lt-leb}
+use Rattle.block_tests.proofs.Laws.{ne-left}
+use borrow.Author.Tests.{ne-eqb}
 use Rattle.codec.specs.Encode.{flag}
 use Rattle.codec.specs.Decode.{isSet}
 use Rattle.block_tests.proofs.flag_ok.Statement.{statement}
 use Rattle.block_tests.proofs.flag_ok.Tie as tie
-use Rattle.block_tests.proofs.flag_ok.Reads as reads
-use Rattle.block_tests.proofs.flag_ok.Lts as lts
 
--- src/lib.rt:92:1
 returns : tie.Need-returns
 unfolding flag isSet
 returns c = simp (c .match .keys1)
 
--- src/lib.rt:92:1
 returns-2 : tie.Need-returns-2
 unfolding flag isSet
 returns-2 c = simp (c .match .keys2)
 
--- src/lib.rt:92:1
 returns-3 : tie.Need-returns-3
 unfolding flag isSet
 returns-3 c = simp (ne-eqb _ _ (c .match .rest .1), ne-left _ _ (c .match .rest .1), ne-eqb _ _ (c .match .rest .0 .1), ne-left _ _ (c .match .rest .0 .1))

@@ -1,29 +1,22 @@
-use Rattle.block_tests.proofs.Laws.{and-true, and-false, and-assoc, zero-left, ne-left, or-clear, mod-below, same-self, or-eight}
-use mathlib.Core.Path.{refl}
-use borrow.Author.Tests.{eq-eqb, ne-eqb, lt-ltb, le-ltb, le-leb, lt-leb}
+use Rattle.block_tests.proofs.Laws.{ne-left}
+use borrow.Author.Tests.{ne-eqb}
 use Rattle.codec.specs.Encode.{rightNumber}
 use Rattle.codec.specs.Decode.{decRight}
 use Rattle.block_tests.proofs.right_ok.Statement.{statement}
 use Rattle.block_tests.proofs.right_ok.Tie as tie
-use Rattle.block_tests.proofs.right_ok.Reads as reads
-use Rattle.block_tests.proofs.right_ok.Lts as lts
 
--- src/lib.rt:102:1
 returns : tie.Need-returns
 unfolding rightNumber decRight
 returns c = simp (c .match .keys1)
 
--- src/lib.rt:102:1
 returns-2 : tie.Need-returns-2
 unfolding rightNumber decRight
 returns-2 c = simp (c .match .keys2)
 
--- src/lib.rt:102:1
 returns-3 : tie.Need-returns-3
 unfolding rightNumber decRight
 returns-3 c = simp (c .match .keys3)
 
--- src/lib.rt:102:1
 returns-4 : tie.Need-returns-4
 unfolding rightNumber decRight
 returns-4 c = simp (ne-eqb _ _ (c .match .rest .1), ne-left _ _ (c .match .rest .1), ne-eqb _ _ (c .match .rest .0 .1), ne-left _ _ (c .match .rest .0 .1), ne-eqb _ _ (c .match .rest .0 .0 .1), ne-left _ _ (c .match .rest .0 .0 .1))
