@@ -2,7 +2,7 @@
 
 use crate::calls::{answer_words, answered, next_call, Style};
 use crate::reference::{self, JobCall};
-use crate::{first_difference, Counts, Outcome, Wrong};
+use crate::{first_difference, listing, Counts, Outcome, Wrong};
 use model::job::{self, Job};
 use model::random::Random;
 use model::samples::any_words;
@@ -173,7 +173,7 @@ pub fn case(_: u64, r: &mut Random, wrong: Wrong, counts: &mut Counts) -> Outcom
     if r.below(2) == 0 {
         damage(&mut bytes, r);
     }
-    let outcome = check(&bytes, r, wrong, counts).and_then(|job| match job {
+    let outcome = whole(&bytes).and_then(|_| check(&bytes, r, wrong, counts)).and_then(|job| match job {
         Some(job) => run(&bytes, &job, r, wrong, counts),
         None => Ok(()),
     });
@@ -184,6 +184,25 @@ pub fn case(_: u64, r: &mut Random, wrong: Wrong, counts: &mut Counts) -> Outcom
         };
         what + &text
     })
+}
+
+/// All that a job gives, by the archive's calls and by the benchmark's runner in place.
+fn whole(bytes: &[u8]) -> Outcome {
+    let model = job::run(bytes);
+    let mut lent = vec![0; words::need(64)];
+    let (mut text, mut reference, mut inplace) = (vec![0; 3 * ROOM], vec![], vec![]);
+    reference::run_job(bytes, &mut lent, &mut text, &mut reference);
+    listing::run(bytes, &mut lent, &mut inplace);
+    for (what, ours) in [("reference", reference), ("in place", inplace)] {
+        if ours != model.as_bytes() {
+            let byte = first_difference(&ours, model.as_bytes());
+            return Err(format!(
+                "listing, first byte that differs {byte:?}\n{what}:\n{}model:\n{model}",
+                String::from_utf8_lossy(&ours)
+            ));
+        }
+    }
+    Ok(())
 }
 
 fn hex_bytes(bytes: &[u8]) -> String {

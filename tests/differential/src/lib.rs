@@ -6,6 +6,7 @@ pub mod calls;
 pub mod flits;
 pub mod inplace;
 pub mod jobs;
+pub mod listing;
 pub mod reference;
 pub mod runs;
 

@@ -178,3 +178,31 @@ pub fn run_call(w: &mut [u64], job: &[u8], call: JobCall, text: &mut [u8], place
         )
     }
 }
+
+/// The listing of an accepted job by the archive's calls: the check, a start, then call by call into `text`, from which whole
+/// pieces go to `listing`.
+pub fn run_job(bytes: &[u8], w: &mut [u64], text: &mut [u8], listing: &mut Vec<u8>) {
+    listing.clear();
+    let mut out = [0; 5];
+    if check_job(bytes, &mut out) != 0 {
+        listing.extend_from_slice(format!("job refused {} at {}\n", out[0], out[1]).as_bytes());
+        return;
+    }
+    let big = |at: usize, n: usize| bytes[at..at + n].iter().fold(0, |sum, &b| sum << 8 | b as u64);
+    let (tiles, line) = (big(3, 1), big(7, 6));
+    let memory: [u64; 8] = std::array::from_fn(|i| big(16 + 8 * i, 8));
+    start(w, tiles, &memory, &mut out);
+    listing.extend_from_slice(format!("bench {tiles} {line:012X}\n").as_bytes());
+    let (mut at, mut number, mut place) = (80, 0, 0);
+    while at < bytes.len() as u64 {
+        number += 1;
+        if text.len() as u64 - place < 12_180 {
+            listing.extend_from_slice(&text[..place as usize]);
+            place = 0;
+        }
+        run_call(w, bytes, JobCall { at, number, line }, text, place, &mut out);
+        (place, at) = (out[0], out[1]);
+    }
+    listing.extend_from_slice(&text[..place as usize]);
+    listing.extend_from_slice(format!("end {number}\n").as_bytes());
+}
