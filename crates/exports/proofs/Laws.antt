@@ -1,9 +1,13 @@
 -- Laws of answers in lent words. Assumes nothing.
-use Prim.Native.Nat.{ℕ, _≤_, _<_}
-use mathlib.Core.Path.{_≡_, refl, ap, subst, _∙_}
+use Prim.Native.Nat.{ℕ, suc, _+_, _≤_, _<_}
+use mathlib.Core.Path.{_≡_, refl, sym, ap, subst, _∙_}
 use mathlib.Core.Bool.{Bool, true, false}
 use mathlib.Core.List.{List, [], _∷_, _++_}
-use lib.ListN.{length, drop}
+use native.Mathlib.Omega.{arith}
+use lib.ListN.{length, getD, drop, drop-of-length-le}
+use lib.Seq.{drop-cons}
+use Rattle.words.proofs.Over.{reads}
+use Rattle.flit_words.specs.declared.Header.{Header}
 use borrow.Author.Tests.{le-leb, lt-leb}
 use Rattle.protocol.specs.Parts.{Call}
 use Rattle.bench.specs.declared.Answer.{Answer}
@@ -14,7 +18,7 @@ use Rattle.job_format.specs.Job.{callOf}
 use Rattle.jobs.specs.Run.{benchCall}
 use Rattle.job_lines.specs.Pieces.{AllPlaced, buffersAfter, placesAfter}
 use Rattle.job_lines.specs.Listing.{answerLines, callLines}
-use Rattle.exports.specs.Told.{told, answerWords, bit}
+use Rattle.exports.specs.Told.{told, answerWords, fieldWords, fieldsFrom, bit}
 
 pub told-fits : (l vs : List ℕ) → length vs ≤ length l → vs ++ drop (length vs) l ≡ told l vs
 unfolding told
@@ -29,6 +33,17 @@ bit-true e t = rw (← e, t)
 
 pub bit-false : {a b : Bool} → a ≡ b → a ≡ false → 0 ≡ bit b
 bit-false e t = rw (← e, t)
+
+-- the fields that a read told are those fields again, and the words that a write was given are those words again
+pub fields-again : (h : Header) → fieldsFrom (fieldWords h) ≡ h
+fields-again h = refl
+
+all-read : (n : ℕ) (l : List ℕ) (j : ℕ) → j + n ≡ length l → drop j l ≡ reads n l j
+all-read ℕ.zero l j e = let h : length l ≤ j = omega arith in drop-of-length-le l h
+all-read (suc n) l j e = rw (drop-cons l j 0 (omega arith)) (ap (λ (r : List ℕ). getD l j 0 ∷ r) (all-read n l (suc j) (omega arith)))
+
+pub words-again : (l : List ℕ) → length l ≡ 18 → fieldWords (fieldsFrom l) ≡ l
+words-again l e = sym (all-read 18 l 0 (omega arith))
 
 -- what is told of an answer is told of what the answer equals
 module _ {A : Type 0} (number : A → ℕ) (words : A → List ℕ) where

@@ -34,9 +34,10 @@ pub(crate) fn tell_answer(out: &mut [u64], a: Answer) -> u64
     ensures refusal { λ r. ⌜ r ≡ a .refusal ⌝ }
     ensures told { λ _. ⌜ now (out .exit) ≡ told (now (out .entry)) (answerWords a) ⌝ }
 {
+    let refusal = a.refusal;
     let vs = [a.refusal, a.kind, a.value, a.sent, a.tiles];
     tell(out, &vs);
-    a.refusal
+    refusal
 }
 
 pub(crate) fn tell_two(out: &mut [u64], a: u64, b: usize)
