@@ -1,8 +1,8 @@
 use mathlib.Core.Path.{_∙_}
-use Rattle.exports.proofs.Laws.{told-fits, told-short}
+use Rattle.telling.proofs.Laws.{told-fits, told-short}
 use borrow.Author.Needs.{needs}
-use Rattle.exports.proofs.telling.tell.Statement.{statement}
-use Rattle.exports.proofs.telling.tell.Tie as tie
+use Rattle.telling.proofs.tell.Statement.{statement}
+use Rattle.telling.proofs.tell.Tie as tie
 
 returns : tie.Need-returns
 returns c = c .before .before .copy .ensures ∙ told-fits (c .before .before .before .before .before .before .before .args .out .now) (c .before .before .before .before .before .before .before .args .vs .now) (c .before .before .before .before .if1 .taken)

@@ -1,28 +1,18 @@
--- Answers in lent words: what an exported function tells its caller.
+-- What the exported functions are given in lent words: a start, fields, a message, a job's call.
 use Prim.Native.Nat.{ℕ}
 use mathlib.Core.Bool.{Bool, cond}
-use mathlib.Core.List.{List, [], _∷_, _++_}
-use lib.Dec.{eqb, leb}
-use lib.ListN.{length, getD, drop}
+use mathlib.Core.List.{List}
+use lib.Dec.{eqb}
+use lib.ListN.{length, getD}
 use Rattle.protocol.specs.Parts.{Bench, Call, Result, refused}
-use Rattle.bench_words.specs.declared.Answer.{Answer}
 use Rattle.bench_words.specs.Calls.{startOn}
 use Rattle.messages.specs.declared.Sent.{Sent}
 use Rattle.message_flits.specs.Fields.{fieldsOf, wordsOf}
 use Rattle.flit_words.specs.declared.Header.{Header}
-use Rattle.flit_reading.specs.declared.Read.{Read}
 use Rattle.flit_writing.specs.declared.Written.{Written}
 use Rattle.flit_writing.specs.Writing.{writtenOf, bufferOf}
-use Rattle.job_format.specs.declared.Checked.{Checked}
 use Rattle.job_format.specs.Job.{jobCallAt, callOf}
 use Rattle.jobs.specs.Run.{benchCall}
-
--- the lent words l with the words vs at their start, where they have room for all of them; else as they were
-unfoldable pub told : List ℕ → List ℕ → List ℕ
-told l vs = cond (leb (length vs) (length l)) (vs ++ drop (length vs) l) l
-
-abbrev pub answerWords : Answer → List ℕ
-answerWords a = a .refusal ∷ a .kind ∷ a .value ∷ a .sent ∷ a .tiles ∷ []
 
 -- a start with lent memory words: other than eight are refused 1
 unfoldable pub startFrom : List ℕ → ℕ → List ℕ → Result Bench
@@ -31,25 +21,6 @@ startFrom l n mem = cond (eqb (length mem) 8) (startOn l n mem) (refused 1)
 -- true is 1, false is 0
 abbrev pub bit : Bool → ℕ
 bit b = cond b 1 0
-
--- refusal number, and how many flits were written
-abbrev pub writtenWords : Written → List ℕ
-writtenWords x = x .refusal ∷ x .flits ∷ []
-
--- refusal number, and the offset of the bad field
-abbrev pub checkedWords : Checked → List ℕ
-checkedWords x = x .refusal ∷ x .offset ∷ []
-
--- The 18 fields of a message, in the order of `Header`.
-abbrev pub fieldWords : Header → List ℕ
-fieldWords h =
-    h .opcode ∷ h .tag ∷ h .to .chip ∷ h .to .x ∷ h .to .y ∷ h .to .port
-    ∷ h .state ∷ h .miss ∷ h .address54 ∷ h .last ∷ h .address ∷ h .vector ∷ h .icache ∷ h .size
-    ∷ h .from .chip ∷ h .from .x ∷ h .from .y ∷ h .from .port ∷ []
-
--- refusal number, flits used, where among them the data start, and the fields
-abbrev pub readWords : Read → List ℕ
-readWords x = x .refusal ∷ x .used ∷ x .start ∷ fieldWords (x .header)
 
 -- the fields that words give
 abbrev pub fieldsFrom : List ℕ → Header

@@ -3,10 +3,10 @@ ghost use mathlib.Core.Path.{_≡_};
 ghost use Prim.Native.Nat.{_≤_};
 ghost use mathlib.Core.List.{_∷_, [], _++_};
 ghost use lib.ListN.{length, drop};
-ghost use Rattle.exports.specs.Told.{told, answerWords, writtenWords, checkedWords, readWords};
-use bench::Answer;
-use flits::Read;
-use flits::Written;
+ghost use Rattle.telling.specs.Told.{told, answerWords, writtenWords, checkedWords, readWords};
+use bench_words::Answer;
+use flit_reading::Read;
+use flit_writing::Written;
 use job_format::Checked;
 
 fn copy(out: &mut [u64], vs: &[u64])
@@ -21,7 +21,7 @@ fn copy(out: &mut [u64], vs: &[u64])
 }
 
 // Puts the words at the start of `out` where they all fit; else `out` stays as it is.
-pub(crate) fn tell(out: &mut [u64], vs: &[u64])
+pub fn tell(out: &mut [u64], vs: &[u64])
     ensures { λ _. ⌜ now (out .exit) ≡ told (now (out .entry)) (now (vs .entry)) ⌝ }
 {
     if vs.len() <= out.len() {
@@ -30,7 +30,7 @@ pub(crate) fn tell(out: &mut [u64], vs: &[u64])
 }
 
 // The five words of a bench's answer, of which the first is returned.
-pub(crate) fn tell_answer(out: &mut [u64], a: Answer) -> u64
+pub fn tell_answer(out: &mut [u64], a: Answer) -> u64
     ensures refusal { λ r. ⌜ r ≡ a .refusal ⌝ }
     ensures told { λ _. ⌜ now (out .exit) ≡ told (now (out .entry)) (answerWords a) ⌝ }
 {
@@ -40,14 +40,14 @@ pub(crate) fn tell_answer(out: &mut [u64], a: Answer) -> u64
     refusal
 }
 
-pub(crate) fn tell_two(out: &mut [u64], a: u64, b: usize)
+pub fn tell_two(out: &mut [u64], a: u64, b: usize)
     ensures { λ _. ⌜ now (out .exit) ≡ told (now (out .entry)) (a ∷ b ∷ []) ⌝ }
 {
     let vs = [a, b as u64];
     tell(out, &vs);
 }
 
-pub(crate) fn tell_written(out: &mut [u64], a: Written) -> u64
+pub fn tell_written(out: &mut [u64], a: Written) -> u64
     ensures refusal { λ r. ⌜ r ≡ a .refusal ⌝ }
     ensures told { λ _. ⌜ now (out .exit) ≡ told (now (out .entry)) (writtenWords a) ⌝ }
 {
@@ -55,7 +55,7 @@ pub(crate) fn tell_written(out: &mut [u64], a: Written) -> u64
     a.refusal
 }
 
-pub(crate) fn tell_checked(out: &mut [u64], a: Checked) -> u64
+pub fn tell_checked(out: &mut [u64], a: Checked) -> u64
     ensures refusal { λ r. ⌜ r ≡ a .refusal ⌝ }
     ensures told { λ _. ⌜ now (out .exit) ≡ told (now (out .entry)) (checkedWords a) ⌝ }
 {
@@ -63,7 +63,7 @@ pub(crate) fn tell_checked(out: &mut [u64], a: Checked) -> u64
     a.refusal
 }
 
-pub(crate) fn tell_read(out: &mut [u64], a: Read) -> u64
+pub fn tell_read(out: &mut [u64], a: Read) -> u64
     ensures refusal { λ r. ⌜ r ≡ a .refusal ⌝ }
     ensures told { λ _. ⌜ now (out .exit) ≡ told (now (out .entry)) (readWords a) ⌝ }
 {

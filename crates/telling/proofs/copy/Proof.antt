@@ -5,8 +5,8 @@ use native.Mathlib.Omega.{arith}
 use borrow.Author.Needs.{needs}
 use lib.ListN.{length, take, drop, set, getD}
 use Rattle.flit_writing.proofs.WriteLaws.{copy-more, copy-length, copy-all}
-use Rattle.exports.proofs.telling.copy.Statement.{statement}
-use Rattle.exports.proofs.telling.copy.Tie as tie
+use Rattle.telling.proofs.copy.Statement.{statement}
+use Rattle.telling.proofs.copy.Tie as tie
 
 abbrev Inv-loop : tie.InvT-loop
 Inv-loop out₀ vs i₀ out i = (i ≤ length vs) × (out ≡ take i vs ++ drop i out₀)
