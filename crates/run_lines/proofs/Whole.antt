@@ -1,0 +1,200 @@
+-- All pieces of a run are the listing. Assumes nothing.
+use Prim.Native.Nat.{ℕ, zero, suc, _+_, _-_, _≤_, _<_}
+use mathlib.Core.Path.{_≡_, refl, ap, ap₂, sym, _∙_}
+use mathlib.Core.Bool.{Bool, true, false, cond}
+use mathlib.Core.List.{List, [], _∷_, _++_, append-assoc, append-nil, map}
+use native.Mathlib.Omega.{arith}
+use borrow.Author.Tests.{le-leb, lt-ltb, le-ltb, ltb-true, ltb-false, eq-eqb, ne-eqb, eqb-true, eqb-false}
+use lib.Dec.{ltb, leb, eqb}
+use lib.ListN.{length}
+use Rattle.bench.specs.Calls.{need, startOn, wordsStarted}
+use Rattle.bench.specs.Runs.{startedWords}
+use Rattle.listing.specs.Lines.{benchLine, endLine, refusedLine}
+use Rattle.job_format.specs.declared.Checked.{Checked}
+use Rattle.job_format.specs.Job.{accepted, refused, fieldRefusal, checkEnd, checkFields, checkJob, headerEnd, tilesOf, addressOf, memoryOf, callAt, nextAt, callsOf, Call}
+use Rattle.job_format.specs.Accepted.{callsAt}
+use Rattle.job_format.proofs.Calls.{call-in, next-in, calls-step, calls-end, accepted-job}
+use Rattle.jobs.specs.Run.{benchCall}
+use Rattle.job_lines.specs.Listing.{callLines, linesFrom, listingOf}
+use Rattle.job_lines.specs.Whole.{bytesOf}
+use Rattle.job_lines.specs.Rules.{ruleListing}
+use Rattle.job_lines.proofs.Whole.{started}
+use Rattle.job_lines.proofs.Rules.{by-the-rules}
+use Rattle.run_lines.specs.Run.{most, Left, behind, paused, ended, callBytes, callWords, turnsFrom, turnsIn, acceptedPiece, firstPiece, nextPiece, runOf}
+use Rattle.run_lines.specs.Whole.{Printed, after, printedFrom, printed, allOf, Accepted-statement, Refused-statement, printout, Run-statement}
+
+not-both : false ≡ true → ⊥
+not-both e = let z : _≡_ {A = ℕ} 0 1 = ap (λ (b : Bool). cond b 1 0) e in omega arith
+
+bytes-append : (xs ys : List (List ℕ)) → bytesOf (xs ++ ys) ≡ bytesOf xs ++ bytesOf ys
+unfolding bytesOf
+bytes-append [] ys = refl
+bytes-append (x ∷ xs) ys = ap (λ (z : List ℕ). x ++ z) (bytes-append xs ys) ∙ sym (append-assoc x (bytesOf xs) (bytesOf ys))
+
+-- ---- what is left of the listing from a place of the job on
+
+abbrev restBytes : List ℕ → ℕ → ℕ → ℕ → List ℕ → List ℕ
+restBytes job line n at l = bytesOf (linesFrom line n (map benchCall (callsAt job at)) l)
+
+rest-end : (job : List ℕ) (line n at : ℕ) (l : List ℕ) → length job ≤ at → restBytes job line n at l ≡ endLine n ++ []
+unfolding linesFrom bytesOf
+rest-end job line n at l h = rw (calls-end job at h)
+
+rest-call : (job : List ℕ) (line n at : ℕ) (l : List ℕ) → at < length job → restBytes job line n at l ≡ callBytes job line n at l ++ restBytes job line (n + 1) (nextAt job at) (callWords job at l)
+unfolding linesFrom
+rest-call job line n at l h =
+    ap (λ (z : List Call). bytesOf (linesFrom line n (map benchCall z) l)) (calls-step job at h ∙ ap₂ {C = List Call} (λ c p. c ∷ callsAt job p) (call-in job at h) (next-in job at h))
+    ∙ bytes-append (callLines line (n + 1) (benchCall (callAt job at)) l) _
+
+-- what comes behind a piece
+abbrev behindIt : List ℕ → ℕ → Left → List ℕ
+behindIt job line x = cond (x .going) (restBytes job line (x .calls) (x .at) (x .words)) []
+
+-- one turn: t is the test for room, u that for the job's end, y the turns behind it
+abbrev oneTurn : List ℕ → ℕ → ℕ → ℕ → List ℕ → Bool → Bool → Left → Left
+oneTurn job line n at l t u y = cond t (cond u (behind (callBytes job line n at l) y) (ended (endLine n) l)) (paused n at l)
+
+turn-rest : (job : List ℕ) (line n at : ℕ) (l : List ℕ) (t u : Bool) (y : Left) → ltb at (length job) ≡ u
+    → (u ≡ true → restBytes job line (n + 1) (nextAt job at) (callWords job at l) ≡ y .bytes ++ behindIt job line y)
+    → restBytes job line n at l ≡ oneTurn job line n at l t u y .bytes ++ behindIt job line (oneTurn job line n at l t u y)
+unfolding behind
+turn-rest job line n at l false u y e ih = refl
+turn-rest job line n at l true true y e ih =
+    rest-call job line n at l (ltb-true at (length job) e) ∙ ap (λ (z : List ℕ). callBytes job line n at l ++ z) (ih refl) ∙ sym (append-assoc (callBytes job line n at l) (y .bytes) (behindIt job line y))
+turn-rest job line n at l true false y e ih = rest-end job line n at l (ltb-false at (length job) e)
+
+-- a piece and what comes behind it
+turns-rest : (f : ℕ) (job : List ℕ) (line limit p n at : ℕ) (l : List ℕ) → length job ≤ f + at
+    → restBytes job line n at l ≡ turnsFrom (suc f) job line limit p n at l .bytes ++ behindIt job line (turnsFrom (suc f) job line limit p n at l)
+unfolding turnsFrom
+turns-rest zero job line limit p n at l h = turn-rest job line n at l (leb p limit) (ltb at (length job)) _ refl (λ e. absurd (omega (arith, ltb-true at (length job) e)))
+turns-rest (suc f) job line limit p n at l h =
+    turn-rest job line n at l (leb p limit) (ltb at (length job)) _ refl
+    (λ e. turns-rest f job line limit (p + length (callBytes job line n at l)) (n + 1) (nextAt job at) (callWords job at l) (omega arith))
+
+-- ---- a run that goes on stands further in the job, and has made fewer calls than there are bytes before its place
+
+record Further (n at : ℕ) (x : Left) : Type 0 where
+  further : at ≤ x .at
+  fewer : n < at → x .calls < x .at
+
+turn-further : (job : List ℕ) (line n at : ℕ) (l : List ℕ) (t u : Bool) (y : Left) → (y .going ≡ true → Further (n + 1) (nextAt job at) y)
+    → oneTurn job line n at l t u y .going ≡ true → Further n at (oneTurn job line n at l t u y)
+unfolding behind
+turn-further job line n at l false u y ih g = record { further = omega arith; fewer = λ h. h }
+turn-further job line n at l true true y ih g = let z = ih g in record { further = omega (arith, z .further); fewer = λ h. z .fewer (omega arith) }
+turn-further job line n at l true false y ih g = absurd (not-both g)
+
+turns-further : (f : ℕ) (job : List ℕ) (line limit p n at : ℕ) (l : List ℕ) → turnsFrom f job line limit p n at l .going ≡ true → Further n at (turnsFrom f job line limit p n at l)
+unfolding turnsFrom
+turns-further zero job line limit p n at l g = record { further = omega arith; fewer = λ h. h }
+turns-further (suc f) job line limit p n at l g =
+    turn-further job line n at l (leb p limit) (ltb at (length job)) _ (turns-further f job line limit (p + length (callBytes job line n at l)) (n + 1) (nextAt job at) (callWords job at l)) g
+
+-- where there is room for a call, at least one is made
+turn-moves : (job : List ℕ) (line n at : ℕ) (l : List ℕ) (u : Bool) (y : Left) → ltb at (length job) ≡ u → (y .going ≡ true → Further (n + 1) (nextAt job at) y)
+    → oneTurn job line n at l true u y .going ≡ true → (at < oneTurn job line n at l true u y .at) × (at < length job)
+unfolding behind
+turn-moves job line n at l true y e ih g = let z = ih g in (omega (arith, z .further), ltb-true at (length job) e)
+turn-moves job line n at l false y e ih g = absurd (not-both g)
+
+turns-moves : (f : ℕ) (job : List ℕ) (line limit p n at : ℕ) (l : List ℕ) → p ≤ limit → turnsFrom (suc f) job line limit p n at l .going ≡ true
+    → (at < turnsFrom (suc f) job line limit p n at l .at) × (at < length job)
+unfolding turnsFrom
+turns-moves f job line limit p n at l h =
+    rw (le-leb p limit h) (turn-moves job line n at l (ltb at (length job)) _ refl (turns-further f job line limit (p + length (callBytes job line n at l)) (n + 1) (nextAt job at) (callWords job at l)))
+
+-- ---- all pieces
+
+-- a run that goes on, and enough pieces left for it
+record Goes (g : ℕ) (job : List ℕ) (x : Left) : Type 0 where
+  fewer : x .calls < x .at
+  some : 1 ≤ g
+  enough : length job < g + x .at
+
+next-is : (job : List ℕ) (len : ℕ) (x : Left) → most ≤ len → x .going ≡ true → x .calls < x .at → nextPiece job len (runOf 0 x) (x .words) ≡ turnsIn job len 0 (x .calls) (x .at) (x .words)
+unfolding nextPiece runOf
+next-is job len x h g f = rw (le-ltb len most h, g, lt-ltb (x .calls) (x .at) f)
+
+all-pieces : (g : ℕ) (job : List ℕ) (len : ℕ) (x : Left) → most ≤ len → (x .going ≡ true → Goes g job x) → printedFrom g job len x ≡ allOf (x .bytes ++ behindIt job (addressOf job) x)
+unfolding printedFrom after
+all-pieces zero job len x h k = go (x .going) refl
+  where
+    go : (t : Bool) → x .going ≡ t → record { bytes = x .bytes; going = x .going } ≡ allOf (x .bytes ++ cond t (restBytes job (addressOf job) (x .calls) (x .at) (x .words)) [])
+    go true e = absurd (omega (arith, k e .some))
+    go false e = ap₂ {C = Printed} (λ b t. record { bytes = b; going = t }) (sym (append-nil (x .bytes))) e
+all-pieces (suc g) job len x h k =
+    go (x .going) refl
+    (λ e. let z = k e in
+    let i = next-is job len x h e (z .fewer) in
+    rw i (all-pieces g job len (turnsIn job len 0 (x .calls) (x .at) (x .words)) h (λ f. let m = turns-moves (length job) job (addressOf job) (len - most) 0 (x .calls) (x .at) (x .words) (omega arith) f in
+    record { fewer = turns-further (suc (length job)) job (addressOf job) (len - most) 0 (x .calls) (x .at) (x .words) f .fewer (z .fewer); some = omega (arith, m .1, z .enough); enough = omega (arith, m .0, z .enough) })))
+  where
+    go : (t : Bool) → x .going ≡ t
+        → (x .going ≡ true → printedFrom g job len (nextPiece job len (runOf 0 x) (x .words)) ≡ allOf (turnsIn job len 0 (x .calls) (x .at) (x .words) .bytes ++ behindIt job (addressOf job) (turnsIn job len 0 (x .calls) (x .at) (x .words))))
+        → cond t (after (x .bytes) (printedFrom g job len (nextPiece job len (runOf 0 x) (x .words)))) (record { bytes = x .bytes; going = false })
+        ≡ allOf (x .bytes ++ cond t (restBytes job (addressOf job) (x .calls) (x .at) (x .words)) [])
+    go true e ih = rw (ih e) (ap (λ (b : List ℕ). allOf (x .bytes ++ b)) (sym (turns-rest (length job) job (addressOf job) (len - most) 0 (x .calls) (x .at) (x .words) (omega arith))))
+    go false e ih = ap allOf (sym (append-nil (x .bytes)))
+
+-- ---- the first piece
+
+first-accepted : (job : List ℕ) (len : ℕ) (l : List ℕ) → most ≤ len → checkJob job .refusal ≡ 0 → firstPiece job len l ≡ acceptedPiece job len l
+unfolding firstPiece
+first-accepted job len l h e = rw (le-ltb len most h, eq-eqb (checkJob job .refusal) 0 e)
+
+pub accepted-run : Accepted-statement
+unfolding printed acceptedPiece behind bytesOf listingOf callsOf
+accepted-run job l len e w h =
+    let a = accepted-job job e in
+    let bs : List ℕ = benchLine (tilesOf job) (addressOf job) in
+    let st = started (tilesOf job) (memoryOf job) l (a .some-tiles) (a .most-tiles) w in
+    let x : Left = turnsIn job len (length bs) 0 headerEnd (wordsStarted l (tilesOf job) (startOn l (tilesOf job) (memoryOf job))) in
+    rw (first-accepted job len l h (ap (λ (z : Checked). z .refusal) e))
+    (all-pieces (length job) job len (behind bs x) h
+    (λ g. let z = turns-further (suc (length job)) job (addressOf job) (len - most) (length bs) 0 headerEnd _ g in record { fewer = z .fewer (omega arith); some = omega (arith, a .header); enough = omega (arith, z .further) })
+    ∙ ap allOf (append-assoc bs (x .bytes) (behindIt job (addressOf job) x)
+    ∙ ap (λ (z : List ℕ). bs ++ z) (sym (turns-rest (length job) job (addressOf job) (len - most) (length bs) 0 headerEnd (wordsStarted l (tilesOf job) (startOn l (tilesOf job) (memoryOf job))) (omega arith)))
+    ∙ rw st refl ∙ ap bytesOf (by-the-rules job l e)))
+
+ended-pieces : (f : ℕ) (job : List ℕ) (len : ℕ) (bs l : List ℕ) → printedFrom f job len (ended bs l) ≡ allOf bs
+unfolding printedFrom
+ended-pieces zero job len bs l = refl
+ended-pieces (suc f) job len bs l = refl
+
+pub refused-run : Refused-statement
+unfolding printed firstPiece
+refused-run job l len f e h = rw (le-ltb len most h, ne-eqb (checkJob job .refusal) 0 e) (ended-pieces f job len (refusedLine (checkJob job .refusal) (checkJob job .offset)) l)
+
+-- ---- every byte string: a job with refusal number 0 is accepted
+
+end-zero : (at k : ℕ) (t : Bool) → cond t (refused 23 at) accepted .refusal ≡ 0 → cond t (refused 23 at) accepted ≡ accepted
+end-zero at k true e = absurd (omega arith)
+end-zero at k false e = refl
+
+field-zero : (n at : ℕ) (t u : Bool) (y z : Checked) → eqb n 0 ≡ u → (y .refusal ≡ 0 → y ≡ accepted) → (z .refusal ≡ 0 → z ≡ accepted)
+    → cond t (cond u y (refused n at)) z .refusal ≡ 0 → cond t (cond u y (refused n at)) z ≡ accepted
+field-zero n at true true y z e f g h = f h
+field-zero n at true false y z e f g h = absurd (eqb-false n 0 e h)
+field-zero n at false u y z e f g h = g h
+
+fields-zero : (f : ℕ) (job : List ℕ) (at k : ℕ) → checkFields f job at k .refusal ≡ 0 → checkFields f job at k ≡ accepted
+unfolding checkFields checkEnd
+fields-zero zero job at k = end-zero at k (ltb k 3)
+fields-zero (suc f) job at k = field-zero (fieldRefusal job at k) at (ltb at (length job)) (eqb (fieldRefusal job at k) 0) _ _ refl (fields-zero f job (nextAt job at) (k + 1)) (end-zero at k (ltb k 3))
+
+pub zero-accepted : (job : List ℕ) → checkJob job .refusal ≡ 0 → checkJob job ≡ accepted
+unfolding checkJob
+zero-accepted job = go (ltb 65536 (length job))
+  where
+    go : (t : Bool) → cond t (refused 25 65536) (checkFields (length job) job 0 0) .refusal ≡ 0 → cond t (refused 25 65536) (checkFields (length job) job 0 0) ≡ accepted
+    go true e = absurd (omega arith)
+    go false e = fields-zero (length job) job 0 0 e
+
+pub run : Run-statement
+unfolding printout
+run job l len w h = go (eqb (checkJob job .refusal) 0) refl
+  where
+    go : (t : Bool) → eqb (checkJob job .refusal) 0 ≡ t → printed (length job) job len l ≡ allOf (cond t (bytesOf (ruleListing job)) (refusedLine (checkJob job .refusal) (checkJob job .offset)))
+    go true e = let a = zero-accepted job (eqb-true _ _ e) in accepted-run job l len a (omega (arith, accepted-job job a .most-tiles)) h
+    go false e = refused-run job l len (length job) (eqb-false _ _ e) h
