@@ -2,16 +2,16 @@
 use Prim.Native.Nat.{ℕ, zero, suc, _+_, _-_, _≤_, _<_}
 use mathlib.Core.Path.{_≡_, refl, ap, ap₂, sym, _∙_}
 use mathlib.Core.Bool.{Bool, true, false, cond}
-use mathlib.Core.List.{List, [], _∷_, _++_, append-assoc, append-nil}
+use mathlib.Core.List.{List, [], _++_, append-assoc, append-nil}
 use native.Mathlib.Omega.{arith}
 use borrow.Author.Tests.{le-leb, lt-leb, lt-ltb, le-ltb, eq-eqb, ne-eqb}
 use lib.Dec.{ltb, leb}
 use lib.ListN.{length, length-append}
 use Rattle.lists.specs.Over.{over, Placed, Put}
-use Rattle.lists.proofs.OverLaws.{length-over, over-nil, over-over, placed-put, placed-length}
+use Rattle.lists.proofs.OverLaws.{over-nil, over-over, placed-put}
 use Rattle.bench.specs.Calls.{startOn, wordsStarted}
 use Rattle.bench.specs.Runs.{afterCall}
-use Rattle.listing.specs.Lines.{decimal, benchLine, endLine, refusedLine}
+use Rattle.listing.specs.Lines.{benchLine, endLine, refusedLine}
 use Rattle.listing.proofs.LineLaws.{bench-length, end-length, refused-length}
 use Rattle.job_format.specs.declared.Checked.{Checked}
 use Rattle.job_format.specs.declared.JobCall.{JobCall}
@@ -20,7 +20,6 @@ use Rattle.job_format.proofs.Calls.{call-in, next-in}
 use Rattle.jobs.specs.Run.{benchCall}
 use Rattle.job_lines.specs.Pieces.{AllPlaced}
 use Rattle.job_lines.specs.Listing.{callLines}
-use Rattle.job_lines.specs.Whole.{bytesOf}
 use Rattle.job_lines.proofs.Room.{decimal-le, answer-le, room}
 use Rattle.run_lines.specs.declared.Run.{Run}
 use Rattle.run_lines.specs.Run.{most, Left, behind, paused, ended, callBytes, callWords, turnsFrom, acceptedPiece, firstPiece, nextPiece, runOf, Puts, callLeft}

@@ -7,8 +7,7 @@ use native.Mathlib.Omega.{arith}
 use borrow.Author.Tests.{le-leb, lt-ltb, le-ltb, ltb-true, ltb-false, eq-eqb, ne-eqb, eqb-true, eqb-false}
 use lib.Dec.{ltb, leb, eqb}
 use lib.ListN.{length}
-use Rattle.bench.specs.Calls.{need, startOn, wordsStarted}
-use Rattle.bench.specs.Runs.{startedWords}
+use Rattle.bench.specs.Calls.{startOn, wordsStarted}
 use Rattle.listing.specs.Lines.{benchLine, endLine, refusedLine}
 use Rattle.job_format.specs.declared.Checked.{Checked}
 use Rattle.job_format.specs.Job.{accepted, refused, fieldRefusal, checkEnd, checkFields, checkJob, headerEnd, tilesOf, addressOf, memoryOf, callAt, nextAt, callsOf, Call}
@@ -20,6 +19,7 @@ use Rattle.job_lines.specs.Whole.{bytesOf}
 use Rattle.job_lines.specs.Rules.{ruleListing}
 use Rattle.job_lines.proofs.Whole.{started}
 use Rattle.job_lines.proofs.Rules.{by-the-rules}
+use Rattle.run_lines.specs.declared.Run.{Run}
 use Rattle.run_lines.specs.Run.{most, Left, behind, paused, ended, callBytes, callWords, turnsFrom, turnsIn, acceptedPiece, firstPiece, nextPiece, runOf}
 use Rattle.run_lines.specs.Whole.{Printed, after, printedFrom, printed, allOf, Accepted-statement, Refused-statement, printout, Run-statement}
 
@@ -198,3 +198,33 @@ run job l len w h = go (eqb (checkJob job .refusal) 0) refl
     go : (t : Bool) → eqb (checkJob job .refusal) 0 ≡ t → printed (length job) job len l ≡ allOf (cond t (bytesOf (ruleListing job)) (refusedLine (checkJob job .refusal) (checkJob job .offset)))
     go true e = let a = zero-accepted job (eqb-true _ _ e) in accepted-run job l len a (omega (arith, accepted-job job a .most-tiles)) h
     go false e = refused-run job l len (length job) (eqb-false _ _ e) h
+
+-- ---- a caller's loop ends, whatever the buffer: each piece leaves fewer
+
+abbrev pub piecesLeft : List ℕ → Run → ℕ
+piecesLeft job r = cond (r .going) (suc (length job - r .at)) 0
+
+left-less : (job : List ℕ) (r a : Run) → r .going ≡ true → (a .going ≡ true → (r .at < a .at) × (r .at < length job)) → piecesLeft job a < piecesLeft job r
+left-less job r a e k = rw e (go (a .going) refl)
+  where
+    go : (t : Bool) → a .going ≡ t → cond t (suc (length job - a .at)) 0 < suc (length job - r .at)
+    go true g = let m = k g in omega (arith, m .0, m .1)
+    go false g = omega arith
+
+next-moves : (job : List ℕ) (len : ℕ) (r : Run) (l : List ℕ) → nextPiece job len r l .going ≡ true → (r .at < nextPiece job len r l .at) × (r .at < length job)
+unfolding nextPiece
+next-moves job len r l = go (ltb len most) (r .going) (ltb (r .calls) (r .at))
+  where
+    x : Left
+    x = turnsIn job len 0 (r .calls) (r .at) l
+
+    go : (s t u : Bool) → cond s (ended [] l) (cond t (cond u x (ended [] l)) (ended [] l)) .going ≡ true
+        → (r .at < cond s (ended [] l) (cond t (cond u x (ended [] l)) (ended [] l)) .at) × (r .at < length job)
+    go true t u g = absurd (not-both g)
+    go false true true g = turns-moves (length job) job (addressOf job) (len - most) 0 (r .calls) (r .at) l (omega arith) g
+    go false true false g = absurd (not-both g)
+    go false false u g = absurd (not-both g)
+
+pub next-less : (job : List ℕ) (len : ℕ) (r a : Run) (l : List ℕ) → r .going ≡ true → a ≡ runOf 0 (nextPiece job len r l) → piecesLeft job a < piecesLeft job r
+unfolding runOf
+next-less job len r a l g e = rw e (left-less job r (runOf 0 (nextPiece job len r l)) g (next-moves job len r l))

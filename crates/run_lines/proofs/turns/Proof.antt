@@ -7,10 +7,6 @@ use Rattle.run_lines.specs.Run.{runOf}
 use Rattle.run_lines.proofs.PieceLaws.{Rest, rest-start, rest-step, rest-end, rest-pause}
 use Rattle.run_lines.proofs.turns.Statement.{statement}
 use Rattle.run_lines.proofs.turns.Tie as tie
-use Rattle.run_lines.proofs.turns.Reads as reads
-use Rattle.run_lines.proofs.turns.Lts as lts
-use Rattle.run_lines.proofs.call.Reads as call-reads
-use Rattle.run_lines.proofs.end.Reads as end-reads
 
 abbrev Inv-loop : tie.InvT-loop
 Inv-loop w₀ job buf₀ line limit r₀ w buf r = (length w ≡ length w₀) × (length buf ≡ length buf₀) × Rest job line limit r₀ w₀ buf₀ w buf r
@@ -18,48 +14,37 @@ Inv-loop w₀ job buf₀ line limit r₀ w buf r = (length w ≡ length w₀) ×
 abbrev μ-loop : tie.MeasureT-loop
 μ-loop w₀ job buf₀ line limit r₀ w buf r = length job - r .at
 
--- src/lib.rt:58:5
 loop-holds : tie.Need-loop-holds Inv-loop μ-loop
 loop-holds c = (refl, refl, rest-start _ _ _ _ _ _ (c .before .before .before .pre .2) (c .before .before .before .pre .1) (c .before .before .before .pre .3))
 
--- src/lib.rt:60:13
 end-requires : tie.Need-end-requires Inv-loop μ-loop
 end-requires c κs = omega arith
 
--- src/lib.rt:60:13
 same-length : tie.Need-same-length Inv-loop μ-loop
 same-length c = c .before .before .before .before .before .before .before .before .loop .inv .0
 
--- src/lib.rt:60:13
 same-length-2 : tie.Need-same-length-2 Inv-loop μ-loop
 same-length-2 c = c .before .before .end .kept .0 ∙ c .before .before .before .before .before .before .before .before .loop .inv .1
 
--- src/lib.rt:60:13
 returns : tie.Need-returns Inv-loop μ-loop
 returns c = rest-end _ _ _ _ _ _ _ _ _ (c .before .before .before .before .before .before .before .before .loop .inv .1) (c .before .before .before .before .before .before .before .before .loop .inv .2) _ _ (c .before .before .before .before .before .before .if1 .taken) (c .before .before .before .before .if2 .taken) (c .before .before .end .ensures)
 
--- src/lib.rt:62:9
 call-requires : tie.Need-call-requires Inv-loop μ-loop
 call-requires c κs = (omega arith, omega arith, c .before .before .before .before .before .before .loop .inv .2 .fewer)
 
--- src/lib.rt:58:5
 loop-less : tie.Need-loop-less Inv-loop μ-loop
 unfolding runOf
 loop-less c = omega (arith, ap (λ (z : Run). z .at) (c .before .before .before .before .call .ensures .says))
 
--- src/lib.rt:58:5
 loop-again : tie.Need-loop-again Inv-loop μ-loop
 loop-again c = (c .before .before .before .before .call .kept .0 ∙ c .before .before .before .before .before .before .before .before .before .before .before .loop .inv .0, c .before .before .before .before .call .kept .1 .1 .0 ∙ c .before .before .before .before .before .before .before .before .before .before .before .loop .inv .1, rest-step _ _ _ _ _ _ _ _ _ (c .before .before .before .before .before .before .before .before .before .before .before .loop .inv .1) (c .before .before .before .before .before .before .before .before .before .before .before .loop .inv .2) _ _ _ (c .before .before .before .before .before .before .before .before .before .if1 .taken) (omega arith) (c .before .before .before .before .call .ensures))
 
--- src/lib.rt:53:1
 same-length-3 : tie.Need-same-length-3 Inv-loop μ-loop
 same-length-3 c = c .before .before .loop .inv .0
 
--- src/lib.rt:53:1
 same-length-4 : tie.Need-same-length-4 Inv-loop μ-loop
 same-length-4 c = c .before .before .loop .inv .1
 
--- src/lib.rt:53:1
 returns-2 : tie.Need-returns-2 Inv-loop μ-loop
 returns-2 c = rest-pause _ _ _ _ _ _ _ _ _ (c .before .before .loop .inv .1) (c .before .before .loop .inv .2) (omega arith)
 
