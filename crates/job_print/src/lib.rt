@@ -1,0 +1,20 @@
+// Prints a job's listing, or only the line of its refusal, on standard output, piece by piece: what is put into the buffer is run_lines'.
+ghost use Prim.Native.Nat.{_≤_};
+ghost use lib.ListN.{length};
+use libc::STDOUT_FILENO;
+
+fn show(buf: &[u8], n: usize)
+    requires { ⌜ n ≤ length (now buf) ⌝ }
+{
+    io::write_all(STDOUT_FILENO, &buf[..n]);
+}
+
+// Runs the job on the lent words, 5,450 for every job, with a lent buffer of at least 12,180 bytes.
+pub fn print(words: &mut [u64], job: &[u8], out: &mut [u8]) {
+    let mut r = run_lines::first(words, job, out);
+    show(out, r.put);
+    while r.going {
+        r = run_lines::more(words, job, out, r);
+        show(out, r.put);
+    }
+}
