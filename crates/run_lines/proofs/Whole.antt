@@ -145,7 +145,7 @@ first-accepted job len l h e = rw (le-ltb len most h, eq-eqb (checkJob job .refu
 
 pub accepted-run : Accepted-statement
 unfolding printed acceptedPiece behind bytesOf listingOf callsOf
-accepted-run job l len e w h =
+accepted-run job l len y e w h =
     let a = accepted-job job e in
     let bs : List ℕ = benchLine (tilesOf job) (addressOf job) in
     let st = started (tilesOf job) (memoryOf job) l (a .some-tiles) (a .most-tiles) w in
@@ -155,7 +155,7 @@ accepted-run job l len e w h =
     (λ g. let z = turns-further (suc (length job)) job (addressOf job) (len - most) (length bs) 0 headerEnd _ g in record { fewer = z .fewer (omega arith); some = omega (arith, a .header); enough = omega (arith, z .further) })
     ∙ ap allOf (append-assoc bs (x .bytes) (behindIt job (addressOf job) x)
     ∙ ap (λ (z : List ℕ). bs ++ z) (sym (turns-rest (length job) job (addressOf job) (len - most) (length bs) 0 headerEnd (wordsStarted l (tilesOf job) (startOn l (tilesOf job) (memoryOf job))) (omega arith)))
-    ∙ rw st refl ∙ ap bytesOf (by-the-rules job l e)))
+    ∙ rw st refl ∙ ap bytesOf (by-the-rules job l y e)))
 
 ended-pieces : (f : ℕ) (job : List ℕ) (len : ℕ) (bs l : List ℕ) → printedFrom f job len (ended bs l) ≡ allOf bs
 unfolding printedFrom
@@ -193,10 +193,10 @@ zero-accepted job = go (ltb 65536 (length job))
 
 pub run : Run-statement
 unfolding printout
-run job l len w h = go (eqb (checkJob job .refusal) 0) refl
+run job l len y w h = go (eqb (checkJob job .refusal) 0) refl
   where
     go : (t : Bool) → eqb (checkJob job .refusal) 0 ≡ t → printed (length job) job len l ≡ allOf (cond t (bytesOf (ruleListing job)) (refusedLine (checkJob job .refusal) (checkJob job .offset)))
-    go true e = let a = zero-accepted job (eqb-true _ _ e) in accepted-run job l len a (omega (arith, accepted-job job a .most-tiles)) h
+    go true e = let a = zero-accepted job (eqb-true _ _ e) in accepted-run job l len y a (omega (arith, accepted-job job a .most-tiles)) h
     go false e = refused-run job l len (length job) (eqb-false _ _ e) h
 
 -- ---- a caller's loop ends, whatever the buffer: each piece leaves fewer

@@ -9,7 +9,7 @@ use Rattle.bench.specs.Calls.{need}
 use Rattle.listing.specs.Lines.{refusedLine}
 use Rattle.job_format.specs.Job.{checkJob, accepted, tilesOf}
 use Rattle.job_lines.specs.Whole.{bytesOf}
-use Rattle.job_lines.specs.Rules.{ruleListing}
+use Rattle.job_lines.specs.Rules.{ruleListing, Bytes}
 use Rattle.run_lines.specs.Run.{most, Left, firstPiece, nextPiece, runOf}
 
 -- all that was put, and whether there is more
@@ -38,7 +38,7 @@ allOf bs = record { bytes = bs; going = false }
 -- by 01's rules, and end after no more pieces than the job has bytes.
 abbrev pub Accepted-statement : Type 0
 Accepted-statement =
-    (job l : List ℕ) (len : ℕ) → checkJob job ≡ accepted → need (tilesOf job) ≤ length l → most ≤ len → printed (length job) job len l ≡ allOf (bytesOf (ruleListing job))
+    (job l : List ℕ) (len : ℕ) → Bytes job → checkJob job ≡ accepted → need (tilesOf job) ≤ length l → most ≤ len → printed (length job) job len l ≡ allOf (bytesOf (ruleListing job))
 
 -- A refused job: the first piece is the line of its refusal, and there is no other.
 abbrev pub Refused-statement : Type 0
@@ -51,4 +51,4 @@ printout job = cond (eqb (checkJob job .refusal) 0) (bytesOf (ruleListing job)) 
 
 -- Every byte string, in words that are enough for 64 tiles.
 abbrev pub Run-statement : Type 0
-Run-statement = (job l : List ℕ) (len : ℕ) → need 64 ≤ length l → most ≤ len → printed (length job) job len l ≡ allOf (printout job)
+Run-statement = (job l : List ℕ) (len : ℕ) → Bytes job → need 64 ≤ length l → most ≤ len → printed (length job) job len l ≡ allOf (printout job)
