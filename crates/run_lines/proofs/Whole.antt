@@ -21,7 +21,7 @@ use Rattle.job_lines.proofs.Whole.{started}
 use Rattle.job_lines.proofs.Rules.{by-the-rules}
 use Rattle.run_lines.specs.declared.Run.{Run}
 use Rattle.run_lines.specs.Run.{most, Left, behind, paused, ended, callBytes, callWords, turnsFrom, turnsIn, acceptedPiece, firstPiece, nextPiece, runOf}
-use Rattle.run_lines.specs.Whole.{Printed, after, printedFrom, printed, allOf, Accepted-statement, Refused-statement, printout, Run-statement}
+use Rattle.run_lines.specs.Whole.{Printed, after, printedFrom, printed, lastFrom, wordsPrinted, allOf, Accepted-statement, Refused-statement, printout, Run-statement}
 
 not-both : false ≡ true → ⊥
 not-both e = let z : _≡_ {A = ℕ} 0 1 = ap (λ (b : Bool). cond b 1 0) e in omega arith
@@ -228,3 +228,71 @@ next-moves job len r l = go (ltb len most) (r .going) (ltb (r .calls) (r .at))
 pub next-less : (job : List ℕ) (len : ℕ) (r a : Run) (l : List ℕ) → r .going ≡ true → a ≡ runOf 0 (nextPiece job len r l) → piecesLeft job a < piecesLeft job r
 unfolding runOf
 next-less job len r a l g e = rw e (left-less job r (runOf 0 (nextPiece job len r l)) g (next-moves job len r l))
+
+-- ---- and its last piece is that of the run
+
+last-enough : (f g : ℕ) (job : List ℕ) (len : ℕ) (x : Left) → piecesLeft job (runOf 0 x) ≤ f → piecesLeft job (runOf 0 x) ≤ g → lastFrom f job len x ≡ lastFrom g job len x
+unfolding lastFrom runOf
+last-enough zero zero job len x h k = refl
+last-enough zero (suc g) job len x h k = go (x .going) refl
+  where
+    go : (t : Bool) → x .going ≡ t → x ≡ cond t (lastFrom g job len (nextPiece job len (runOf 0 x) (x .words))) x
+    go true e = let z : suc (length job - x .at) ≤ 0 = rw e at h in absurd (omega arith)
+    go false e = refl
+last-enough (suc f) zero job len x h k = go (x .going) refl
+  where
+    go : (t : Bool) → x .going ≡ t → cond t (lastFrom f job len (nextPiece job len (runOf 0 x) (x .words))) x ≡ x
+    go true e = let z : suc (length job - x .at) ≤ 0 = rw e at k in absurd (omega arith)
+    go false e = refl
+last-enough (suc f) (suc g) job len x h k =
+    go (x .going) refl
+    (λ e. let m = next-less job len (runOf 0 x) (runOf 0 (nextPiece job len (runOf 0 x) (x .words))) (x .words) e refl in
+    last-enough f g job len (nextPiece job len (runOf 0 x) (x .words)) (omega (arith, m, h)) (omega (arith, m, k)))
+  where
+    go : (t : Bool) → x .going ≡ t → (x .going ≡ true → lastFrom f job len (nextPiece job len (runOf 0 x) (x .words)) ≡ lastFrom g job len (nextPiece job len (runOf 0 x) (x .words)))
+        → cond t (lastFrom f job len (nextPiece job len (runOf 0 x) (x .words))) x ≡ cond t (lastFrom g job len (nextPiece job len (runOf 0 x) (x .words))) x
+    go true e ih = ih e
+    go false e ih = refl
+
+-- where a caller's loop stands
+pub record Stands (job : List ℕ) (len : ℕ) (l₀ l : List ℕ) (r : Run) : Type 0 where
+  pub piece : Left
+  pub says : r ≡ runOf 0 piece
+  pub leaves : l ≡ piece .words
+  pub rest : wordsPrinted job len l₀ ≡ lastFrom (suc (length job)) job len piece .words
+
+pub stands-first : (job : List ℕ) (len : ℕ) (l₀ l : List ℕ) (r : Run) → r ≡ runOf 0 (firstPiece job len l₀) → l ≡ firstPiece job len l₀ .words → Stands job len l₀ l r
+unfolding wordsPrinted
+stands-first job len l₀ l r e w = record { piece = firstPiece job len l₀; says = e; leaves = w; rest = refl }
+
+at-most : (job : List ℕ) (r : Run) → piecesLeft job r ≤ suc (length job)
+at-most job r = go (r .going)
+  where
+    go : (t : Bool) → cond t (suc (length job - r .at)) 0 ≤ suc (length job)
+    go true = omega arith
+    go false = omega arith
+
+last-next : (job : List ℕ) (len : ℕ) (x : Left) → x .going ≡ true → lastFrom (suc (length job)) job len x ≡ lastFrom (suc (length job)) job len (nextPiece job len (runOf 0 x) (x .words))
+unfolding lastFrom runOf
+last-next job len x g =
+    let m = next-less job len (runOf 0 x) (runOf 0 (nextPiece job len (runOf 0 x) (x .words))) (x .words) g refl in
+    let b = at-most job (runOf 0 x) in
+    ap (λ (t : Bool). cond t (lastFrom (length job) job len (nextPiece job len (runOf 0 x) (x .words))) x) g
+    ∙ last-enough (length job) (suc (length job)) job len (nextPiece job len (runOf 0 x) (x .words)) (omega (arith, m, b)) (omega (arith, m, b))
+
+pub stands-next : (job : List ℕ) (len : ℕ) (l₀ l l′ : List ℕ) (r a : Run) → Stands job len l₀ l r → r .going ≡ true → a ≡ runOf 0 (nextPiece job len r l) → l′ ≡ nextPiece job len r l .words → Stands job len l₀ l′ a
+unfolding runOf
+stands-next job len l₀ l l′ r a s g e w =
+    let x : Left = s .piece in
+    record {
+      piece = nextPiece job len (runOf 0 x) (x .words);
+      says = rw (s .says, s .leaves) at e;
+      leaves = rw (s .says, s .leaves) at w;
+      rest = s .rest ∙ ap (λ (z : Left). z .words) (last-next job len x (sym (ap (λ (z : Run). z .going) (s .says)) ∙ g));
+    }
+
+pub stands-last : (job : List ℕ) (len : ℕ) (l₀ l : List ℕ) (r : Run) → Stands job len l₀ l r → r .going ≡ false → l ≡ wordsPrinted job len l₀
+unfolding lastFrom runOf
+stands-last job len l₀ l r s g =
+    let x : Left = s .piece in
+    s .leaves ∙ sym (s .rest ∙ ap (λ (t : Bool). cond t (lastFrom (length job) job len (nextPiece job len (runOf 0 x) (x .words))) x .words) (sym (ap (λ (z : Run). z .going) (s .says)) ∙ g))

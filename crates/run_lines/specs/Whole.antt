@@ -30,6 +30,14 @@ printedFrom (suc f) job len x =
 unfoldable pub printed : ℕ → List ℕ → ℕ → List ℕ → Printed
 printed f job len l = printedFrom f job len (firstPiece job len l)
 
+-- the last of these pieces, and the words that the whole run leaves
+unfoldable pub lastFrom : ℕ → List ℕ → ℕ → Left → Left
+lastFrom ℕ.zero job len x = x
+lastFrom (suc f) job len x = cond (x .going) (lastFrom f job len (nextPiece job len (runOf 0 x) (x .words))) x
+
+unfoldable pub wordsPrinted : List ℕ → ℕ → List ℕ → List ℕ
+wordsPrinted job len l = lastFrom (suc (length job)) job len (firstPiece job len l) .words
+
 -- all of it, and no more
 abbrev pub allOf : List ℕ → Printed
 allOf bs = record { bytes = bs; going = false }
