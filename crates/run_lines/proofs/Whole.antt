@@ -280,7 +280,7 @@ last-next job len x g =
     ap (λ (t : Bool). cond t (lastFrom (length job) job len (nextPiece job len (runOf 0 x) (x .words))) x) g
     ∙ last-enough (length job) (suc (length job)) job len (nextPiece job len (runOf 0 x) (x .words)) (omega (arith, m, b)) (omega (arith, m, b))
 
-pub stands-next : (job : List ℕ) (len : ℕ) (l₀ l l′ : List ℕ) (r a : Run) → Stands job len l₀ l r → r .going ≡ true → a ≡ runOf 0 (nextPiece job len r l) → l′ ≡ nextPiece job len r l .words → Stands job len l₀ l′ a
+stands-next : (job : List ℕ) (len : ℕ) (l₀ l l′ : List ℕ) (r a : Run) → Stands job len l₀ l r → r .going ≡ true → a ≡ runOf 0 (nextPiece job len r l) → l′ ≡ nextPiece job len r l .words → Stands job len l₀ l′ a
 unfolding runOf
 stands-next job len l₀ l l′ r a s g e w =
     let x : Left = s .piece in
@@ -290,6 +290,10 @@ stands-next job len l₀ l l′ r a s g e w =
       leaves = rw (s .says, s .leaves) at w;
       rest = s .rest ∙ ap (λ (z : Left). z .words) (last-next job len x (sym (ap (λ (z : Run). z .going) (s .says)) ∙ g));
     }
+
+-- the same in a buffer of that length
+pub stands-more : (job : List ℕ) (n len : ℕ) (l₀ l l′ : List ℕ) (r a : Run) → len ≡ n → Stands job n l₀ l r → r .going ≡ true → a ≡ runOf 0 (nextPiece job len r l) → l′ ≡ nextPiece job len r l .words → Stands job n l₀ l′ a
+stands-more job n len l₀ l l′ r a e s g x y = stands-next job n l₀ l l′ r a s g (rw e at x) (rw e at y)
 
 pub stands-last : (job : List ℕ) (len : ℕ) (l₀ l : List ℕ) (r : Run) → Stands job len l₀ l r → r .going ≡ false → l ≡ wordsPrinted job len l₀
 unfolding lastFrom runOf
