@@ -84,7 +84,7 @@ address : (job : List ℕ) → Bytes job → addressOf job % 64 ≡ 0 → LineAd
 unfolding addressOf
 address job h e = record { narrow = big-lt 6 job 7 h; whole = e }
 
-eight : (job : List ℕ) → length (memoryOf job) ≡ 8
+pub eight : (job : List ℕ) → length (memoryOf job) ≡ 8
 unfolding memoryOf
 eight job = refl
 

@@ -8,6 +8,7 @@ use borrow.Author.Tests.{le-leb, lt-ltb, le-ltb, ltb-true, ltb-false, eq-eqb, ne
 use lib.Dec.{ltb, leb, eqb}
 use lib.ListN.{length}
 use Rattle.bench.specs.Calls.{startOn, wordsStarted}
+use Rattle.bench.specs.Runs as bench
 use Rattle.listing.specs.Lines.{benchLine, endLine, refusedLine}
 use Rattle.job_format.specs.declared.Checked.{Checked}
 use Rattle.job_format.specs.Job.{accepted, refused, fieldRefusal, checkEnd, checkFields, checkJob, headerEnd, tilesOf, addressOf, memoryOf, callAt, nextAt, callsOf, Call}
@@ -18,10 +19,10 @@ use Rattle.job_lines.specs.Listing.{callLines, linesFrom, listingOf}
 use Rattle.job_lines.specs.Whole.{bytesOf}
 use Rattle.job_lines.specs.Rules.{ruleListing}
 use Rattle.job_lines.proofs.Whole.{started}
-use Rattle.job_lines.proofs.Rules.{by-the-rules}
+use Rattle.job_lines.proofs.Rules.{eight, by-the-rules}
 use Rattle.run_lines.specs.declared.Run.{Run}
 use Rattle.run_lines.specs.Run.{most, Left, behind, paused, ended, callBytes, callWords, turnsFrom, turnsIn, acceptedPiece, firstPiece, nextPiece, runOf}
-use Rattle.run_lines.specs.Whole.{Printed, after, printedFrom, printed, lastFrom, wordsPrinted, allOf, Accepted-statement, Refused-statement, printout, Run-statement}
+use Rattle.run_lines.specs.Whole.{Printed, after, printedFrom, printed, lastFrom, wordsPrinted, allOf, Accepted-statement, Refused-statement, printout, Run-statement, Words-statement}
 
 not-both : false ≡ true → ⊥
 not-both e = let z : _≡_ {A = ℕ} 0 1 = ap (λ (b : Bool). cond b 1 0) e in omega arith
@@ -116,6 +117,11 @@ next-is : (job : List ℕ) (len : ℕ) (x : Left) → most ≤ len → x .going 
 unfolding nextPiece runOf
 next-is job len x h g f = rw (le-ltb len most h, g, lt-ltb (x .calls) (x .at) f)
 
+next-goes : (g : ℕ) (job : List ℕ) (len : ℕ) (x : Left) → x .going ≡ true → Goes (suc g) job x → turnsIn job len 0 (x .calls) (x .at) (x .words) .going ≡ true → Goes g job (turnsIn job len 0 (x .calls) (x .at) (x .words))
+next-goes g job len x e z f =
+    let m = turns-moves (length job) job (addressOf job) (len - most) 0 (x .calls) (x .at) (x .words) (omega arith) f in
+    record { fewer = turns-further (suc (length job)) job (addressOf job) (len - most) 0 (x .calls) (x .at) (x .words) f .fewer (z .fewer); some = omega (arith, m .1, z .enough); enough = omega (arith, m .0, z .enough) }
+
 all-pieces : (g : ℕ) (job : List ℕ) (len : ℕ) (x : Left) → most ≤ len → (x .going ≡ true → Goes g job x) → printedFrom g job len x ≡ allOf (x .bytes ++ behindIt job (addressOf job) x)
 unfolding printedFrom after
 all-pieces zero job len x h k = go (x .going) refl
@@ -127,8 +133,7 @@ all-pieces (suc g) job len x h k =
     go (x .going) refl
     (λ e. let z = k e in
     let i = next-is job len x h e (z .fewer) in
-    rw i (all-pieces g job len (turnsIn job len 0 (x .calls) (x .at) (x .words)) h (λ f. let m = turns-moves (length job) job (addressOf job) (len - most) 0 (x .calls) (x .at) (x .words) (omega arith) f in
-    record { fewer = turns-further (suc (length job)) job (addressOf job) (len - most) 0 (x .calls) (x .at) (x .words) f .fewer (z .fewer); some = omega (arith, m .1, z .enough); enough = omega (arith, m .0, z .enough) })))
+    rw i (all-pieces g job len (turnsIn job len 0 (x .calls) (x .at) (x .words)) h (next-goes g job len x e z)))
   where
     go : (t : Bool) → x .going ≡ t
         → (x .going ≡ true → printedFrom g job len (nextPiece job len (runOf 0 x) (x .words)) ≡ allOf (turnsIn job len 0 (x .calls) (x .at) (x .words) .bytes ++ behindIt job (addressOf job) (turnsIn job len 0 (x .calls) (x .at) (x .words))))
@@ -300,3 +305,65 @@ unfolding lastFrom runOf
 stands-last job len l₀ l r s g =
     let x : Left = s .piece in
     s .leaves ∙ sym (s .rest ∙ ap (λ (t : Bool). cond t (lastFrom (length job) job len (nextPiece job len (runOf 0 x) (x .words))) x .words) (sym (ap (λ (z : Run). z .going) (s .says)) ∙ g))
+
+-- ---- the words that it leaves
+
+abbrev restWords : List ℕ → ℕ → List ℕ → List ℕ
+restWords job at l = bench.callWords (map benchCall (callsAt job at)) l
+
+words-end : (job : List ℕ) (at : ℕ) (l : List ℕ) → length job ≤ at → restWords job at l ≡ l
+unfolding bench.callWords
+words-end job at l h = rw (calls-end job at h)
+
+words-call : (job : List ℕ) (at : ℕ) (l : List ℕ) → at < length job → restWords job at l ≡ restWords job (nextAt job at) (callWords job at l)
+unfolding bench.callWords
+words-call job at l h = ap (λ (z : List Call). bench.callWords (map benchCall z) l) (calls-step job at h ∙ ap₂ {C = List Call} (λ c p. c ∷ callsAt job p) (call-in job at h) (next-in job at h))
+
+abbrev wordsBehind : List ℕ → Left → List ℕ
+wordsBehind job x = cond (x .going) (restWords job (x .at) (x .words)) (x .words)
+
+turn-words : (job : List ℕ) (line n at : ℕ) (l : List ℕ) (t u : Bool) (y : Left) → ltb at (length job) ≡ u → (u ≡ true → restWords job (nextAt job at) (callWords job at l) ≡ wordsBehind job y)
+    → restWords job at l ≡ wordsBehind job (oneTurn job line n at l t u y)
+unfolding behind
+turn-words job line n at l false u y e ih = refl
+turn-words job line n at l true true y e ih = words-call job at l (ltb-true at (length job) e) ∙ ih refl
+turn-words job line n at l true false y e ih = words-end job at l (ltb-false at (length job) e)
+
+turns-words : (f : ℕ) (job : List ℕ) (line limit p n at : ℕ) (l : List ℕ) → length job ≤ f + at → restWords job at l ≡ wordsBehind job (turnsFrom (suc f) job line limit p n at l)
+unfolding turnsFrom
+turns-words zero job line limit p n at l h = turn-words job line n at l (leb p limit) (ltb at (length job)) _ refl (λ e. absurd (omega (arith, ltb-true at (length job) e)))
+turns-words (suc f) job line limit p n at l h =
+    turn-words job line n at l (leb p limit) (ltb at (length job)) _ refl
+    (λ e. turns-words f job line limit (p + length (callBytes job line n at l)) (n + 1) (nextAt job at) (callWords job at l) (omega arith))
+
+last-words : (g : ℕ) (job : List ℕ) (len : ℕ) (x : Left) → most ≤ len → (x .going ≡ true → Goes g job x) → lastFrom g job len x .words ≡ wordsBehind job x
+unfolding lastFrom
+last-words zero job len x h k = go (x .going) refl
+  where
+    go : (t : Bool) → x .going ≡ t → x .words ≡ cond t (restWords job (x .at) (x .words)) (x .words)
+    go true e = absurd (omega (arith, k e .some))
+    go false e = refl
+last-words (suc g) job len x h k =
+    go (x .going) refl
+    (λ e. let z = k e in
+    let i = next-is job len x h e (z .fewer) in
+    rw i (last-words g job len (turnsIn job len 0 (x .calls) (x .at) (x .words)) h (next-goes g job len x e z)))
+  where
+    go : (t : Bool) → x .going ≡ t → (x .going ≡ true → lastFrom g job len (nextPiece job len (runOf 0 x) (x .words)) .words ≡ wordsBehind job (turnsIn job len 0 (x .calls) (x .at) (x .words)))
+        → cond t (lastFrom g job len (nextPiece job len (runOf 0 x) (x .words))) x .words ≡ cond t (restWords job (x .at) (x .words)) (x .words)
+    go true e ih = ih e ∙ sym (turns-words (length job) job (addressOf job) (len - most) 0 (x .calls) (x .at) (x .words) (omega arith))
+    go false e ih = refl
+
+pub all-words : Words-statement
+unfolding wordsPrinted acceptedPiece behind callsOf
+all-words job l len e w h =
+    let a = accepted-job job e in
+    let bs : List ℕ = benchLine (tilesOf job) (addressOf job) in
+    let st = started (tilesOf job) (memoryOf job) l (a .some-tiles) (a .most-tiles) w in
+    let x : Left = turnsIn job len (length bs) 0 headerEnd (wordsStarted l (tilesOf job) (startOn l (tilesOf job) (memoryOf job))) in
+    ap (λ (z : Left). lastFrom (suc (length job)) job len z .words) (first-accepted job len l h (ap (λ (z : Checked). z .refusal) e))
+    ∙ last-words (suc (length job)) job len (behind bs x) h
+    (λ g. let z = turns-further (suc (length job)) job (addressOf job) (len - most) (length bs) 0 headerEnd _ g in record { fewer = z .fewer (omega arith); some = omega arith; enough = omega (arith, z .further) })
+    ∙ sym (turns-words (length job) job (addressOf job) (len - most) (length bs) 0 headerEnd (wordsStarted l (tilesOf job) (startOn l (tilesOf job) (memoryOf job))) (omega arith))
+    ∙ ap (restWords job headerEnd) st
+    ∙ bench-started (tilesOf job) (a .some-tiles) (a .most-tiles) (memoryOf job) (eight job) l (map benchCall (callsOf job)) .words

@@ -2,12 +2,16 @@
 use Prim.Native.Nat.{ℕ, suc, _≤_}
 use mathlib.Core.Path.{_≡_}
 use mathlib.Core.Bool.{Bool, false, cond}
-use mathlib.Core.List.{List, _++_}
+use mathlib.Core.List.{List, _++_, map}
 use lib.Dec.{eqb}
-use lib.ListN.{length}
+use lib.ListN.{length, drop}
+use Rattle.protocol.specs.Bench.{fresh}
+use Rattle.protocol.specs.Demand3.{runs}
+use Rattle.codec.specs.Encode.{encode}
 use Rattle.bench.specs.Calls.{need}
 use Rattle.listing.specs.Lines.{refusedLine}
-use Rattle.job_format.specs.Job.{checkJob, accepted, tilesOf}
+use Rattle.job_format.specs.Job.{checkJob, accepted, tilesOf, memoryOf, callsOf}
+use Rattle.jobs.specs.Run.{benchCall}
 use Rattle.job_lines.specs.Whole.{bytesOf}
 use Rattle.job_lines.specs.Rules.{ruleListing, Bytes}
 use Rattle.run_lines.specs.Run.{most, Left, firstPiece, nextPiece, runOf}
@@ -60,3 +64,9 @@ printout job = cond (eqb (checkJob job .refusal) 0) (bytesOf (ruleListing job)) 
 -- Every byte string, in words that are enough for 64 tiles.
 abbrev pub Run-statement : Type 0
 Run-statement = (job l : List ℕ) (len : ℕ) → Bytes job → need 64 ≤ length l → most ≤ len → printed (length job) job len l ≡ allOf (printout job)
+
+-- The words that the whole run of an accepted job leaves: the bench after all of its calls, by 01's rules, and what stood behind it.
+abbrev pub Words-statement : Type 0
+Words-statement =
+    (job l : List ℕ) (len : ℕ) → checkJob job ≡ accepted → need (tilesOf job) ≤ length l → most ≤ len
+    → wordsPrinted job len l ≡ encode (runs (map benchCall (callsOf job)) (fresh (tilesOf job) (memoryOf job))) ++ drop (need (tilesOf job)) l
