@@ -16,6 +16,7 @@ pub mod TileSteps
 pub mod ViewSteps
 pub mod Moves
 pub mod Calls
+pub mod Runs
 pub mod Bound
 pub mod Quiet
 -- All together:
