@@ -61,10 +61,10 @@ abbrev pub Next : Words → (ℕ → Waiting) → ℕ → Call → ℕ → ℕ �
 Next ws q n c kd v b = Inv (Words-after ws q c kd v) (Waits-after q c kd v) n b × GivesLast ws q c (answer 0 kd v)
 
 -- beside an owner the directory knows nobody, so it may write the words last written
-data IsStranger : Relation → Type 0 where
+pub data IsStranger : Relation → Type 0 where
   is-stranger : IsStranger stranger
 
-beside-owner : {h : Home} {t u : ℕ} {hs : Words} {rel : Relation} {cur cur′ : Option Access} {ask ask′ : Option Forward} → (t ≡ u → ⊥) → Sees h t (owner hs) cur ask → Sees h u rel cur′ ask′ → IsStranger rel
+pub beside-owner : {h : Home} {t u : ℕ} {hs : Words} {rel : Relation} {cur cur′ : Option Access} {ask ask′ : Option Forward} → (t ≡ u → ⊥) → Sees h t (owner hs) cur ask → Sees h u rel cur′ ask′ → IsStranger rel
 beside-owner ne sees-owner sees-owner = absurd (ne refl)
 beside-owner ne sees-owner (sees-unowning n) = is-stranger
 beside-owner ne (asked-owner a) (asked-owner b) = absurd (ne refl)
@@ -271,8 +271,11 @@ take-fine : {rel : Relation} {mark : Bool} {x : Line} {o : Option Request} (ws :
     → Fine ws q n (take t o x k mem empty empty (set ts t y))
 unfolding take
 take-fine {x} ws q n k t mem ts y len lt (guard-front p) e s l all =
-    fine (plain-0, inv (length-set ts t y ∙ len) (idle-ok l)
-    (each-tile ts t y (At ws q (del k t) (Sees (idle x))) len (λ u lu ne. carry (has-del-other k t u ne) (λ rel cur ask z. z) (all u lu)) (at s (has-del k t) p)))
+    fine (
+      plain-0,
+      inv (length-set ts t y ∙ len) (idle-ok l)
+          (each-tile ts t y (At ws q (del k t) (Sees (idle x))) len (λ u lu ne. carry (has-del-other k t u ne) (λ rel cur ask z. z) (all u lu)) (at s (has-del k t) p)),
+    )
 take-fine {x} ws q n k t mem ts y len lt (load-front p) e s l all =
     subst (λ (z : ℕ). Fine ws q n (served t (serve z t reading x) k mem empty empty (set ts t y))) (sym (length-set ts t y ∙ len))
     (serve-fine ws q n k t mem ts y len lt reading s l p e all)
@@ -387,8 +390,11 @@ module _ (ws : Words) (q : ℕ → Waiting) (n l k t : ℕ) (mem : Words) (ts : 
   wb-idle-fine {d} {us} p e all =
       subst (λ (b : Bool). Fine ws q n (writtenBack t (writeBack t ws b (idle (present d us (ownedBy t)))) l k mem empty empty gone)) (sym e)
       (if-true (λ (x : Option Home). Fine ws q n (writtenBack t x l k mem empty empty gone)) _ _ (eqb-same t)
-      (fine (plain-0, inv gone-length (idle-ok (uncached-ok dirty))
-      (each-tile ts t y (At ws q (add k t) (Sees (idle (present true ws uncached)))) len (λ u lu ne. carry (has-add-other k t u ne) (owned-uncached ne) (all u lu)) (at sees-uncached (has-add k t) p)))))
+      (fine (
+        plain-0,
+        inv gone-length (idle-ok (uncached-ok dirty))
+            (each-tile ts t y (At ws q (add k t) (Sees (idle (present true ws uncached)))) len (λ u lu ne. carry (has-add-other k t u ne) (owned-uncached ne) (all u lu)) (at sees-uncached (has-add k t) p)),
+      )))
 
   wb-asked-fine : {d : Bool} {us : Words} {c : Cause} {f : Forward} → AsksFor c f → TileOk ws (q t) (owner ws) none (some f) true y → has k t ≡ false → CauseOk n t c → All ws q n k (Sees (awaitingOwner d us t c)) ts
       → Fine ws q n (writtenBack t (writeBack t ws (has k t) (awaitingOwner d us t c)) l k mem empty empty gone)
@@ -396,8 +402,11 @@ module _ (ws : Words) (q : ℕ → Waiting) (n l k t : ℕ) (mem : Words) (ts : 
   wb-asked-fine {d} {us} {c} a p e cok all =
       subst (λ (b : Bool). Fine ws q n (writtenBack t (writeBack t ws b (awaitingOwner d us t c)) l k mem empty empty gone)) (sym e)
       (if-true (λ (x : Option Home). Fine ws q n (writtenBack t x l k mem empty empty gone)) _ _ (eqb-same t)
-      (fine (plain-0, inv gone-length (owner-ok dirty lt cok)
-      (each-tile ts t y (At ws q (add k t) (Sees (awaitingOwner true ws t c))) len (λ u lu ne. carry (has-add-other k t u ne) (still-asked ne) (all u lu)) (at (asked-owner a) (has-add k t) p)))))
+      (fine (
+        plain-0,
+        inv gone-length (owner-ok dirty lt cok)
+            (each-tile ts t y (At ws q (add k t) (Sees (awaitingOwner true ws t c))) len (λ u lu ne. carry (has-add-other k t u ne) (still-asked ne) (all u lu)) (at (asked-owner a) (has-add k t) p)),
+      )))
 
   -- the owner's ack for a request of tile r: hs are the home's words with it
   ack-shared-fine : {us hs : Words} {d e : Bool} {r : ℕ} → hs ≡ ws → Clean hs mem e → TileOk ws (q t) sharer none none false y → has k t ≡ false → r < n → (t ≡ r → ⊥) → All ws q n k (Sees (awaitingOwner d us t (request r reading))) ts
@@ -453,8 +462,11 @@ module _ (ws : Words) (q : ℕ → Waiting) (n l k t : ℕ) (mem : Words) (ts : 
       if-true (λ (z : Option Move). Fine ws q n (moved z l k mem empty empty gone)) _ _ h
       (by-test (λ (z : Move). Fine ws q n (moved (some z) l k mem empty empty gone)) _ _ _
       (λ z. moved-fine (cleared d ws c) l k mem gone (last-fine c cl (eqb-true (del owed t) 0 z) h cok p e all))
-      (λ z. fine (plain-0, inv gone-length (acks-ok cl (del-lt n owed t lo) (eqb-false (del owed t) 0 z) (λ u i. sub u (del-inside owed t u i)) (less-owed h cok))
-      (each-tile ts t y (At ws q k (Sees _)) len (λ u lu ne. carry refl (still-owed ne) (all u lu)) (at (cleared-out (has-del owed t) (acked-apart h cok)) e p)))))
+      (λ z. fine (
+        plain-0,
+        inv gone-length (acks-ok cl (del-lt n owed t lo) (eqb-false (del owed t) 0 z) (λ u i. sub u (del-inside owed t u i)) (less-owed h cok))
+            (each-tile ts t y (At ws q k (Sees _)) len (λ u lu ne. carry refl (still-owed ne) (all u lu)) (at (cleared-out (has-del owed t) (acked-apart h cok)) e p)),
+      )))
 
   accept-fine : {rel : Relation} {cur : Option Access} {ask : Option Forward} {mark : Bool} {o : Option Reply} {h : Home} {out : Queue ToMemory} {back : Queue FromMemory}
       → Front3 ws (q t) rel cur ask mark o y → Sees h t rel cur ask → has k t ≡ mark → HomeOk n mem ws h out back → All ws q n k (Sees h) ts

@@ -1,4 +1,4 @@
--- Demand 3 over the rules. Tests and searches decided:
+-- Demand 3 and order 1 over the rules. Tests and searches decided:
 pub mod Tests
 pub mod Search
 -- What needs no invariant:
@@ -21,4 +21,5 @@ pub mod Bound
 pub mod Quiet
 -- All together:
 pub mod Theorem
+pub mod Order1
 pub mod Examples
