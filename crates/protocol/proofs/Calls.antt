@@ -18,7 +18,8 @@ use Rattle.protocol.specs.Tile.{loadAt, storeAt, evictAt, deliverTo}
 use Rattle.protocol.specs.Home.{Move, move, grantShared, grantOwner, ownRight, askOwner, invalidate, leave, serve, writeBack, wordsAfter, dirtyAfter, loadAckS, loadAckI, storeAck, cleared, invAck, acknowledged, evictLine}
 use Rattle.protocol.specs.Bench.{freshTile, tileAt, push, front, rest, onTile1, onTile3, sendOne, sendTo, send, sent, posted, kindOf, settle, atTile, atWord, eligible, arbitrate, popNoc1, served, take, takeFrom, takingOn, noc3, popNoc3, writtenBack, moved, accept, fromTileOn, memoryServes, memoryStepOn, acceptAck, memoryAckOn, homeEvictionOn, step}
 use Rattle.protocol.specs.Demand3.{answer, hasKind, event, isMisfit}
-use Rattle.protocol.specs.Order1.{waitsForAfter, writes, writtenAfter, valueOf, GivesLast}
+use Rattle.protocol.specs.Order1.{waitsForAfter, valueOf, GivesLast}
+use Rattle.protocol.proofs.Written.{writtenAfter}
 use Rattle.protocol.proofs.Tests.{clash, by-test, if-true, if-false, eqb-same, at-or-not}
 use Rattle.protocol.proofs.Search.{first-passes, eligible-below}
 use Rattle.protocol.proofs.Invariant.{Relation, stranger, sharer, owner, TileOk, AsksFor, asks-load, asks-store, asks-eviction, Apart, apart-request, apart-eviction, ApartFrom, apart-store, apart-clearing, Sees, sees-absent, sees-uncached, sees-sharer, sees-outsider, sees-owner, sees-unowning, loads, loads-not, asked-owner, requester, bystander, owing, storer, cleared-out, sees-leaving, InMask, in-mask, off-mask, Clean, clean, dirty, LineOk, absent-ok, uncached-ok, shared-ok, owned-ok, CauseOk, request-ok, eviction-ok, ClearingOk, store-ok, clearing-ok, Inside, HomeOk, idle-ok, load-out, load-back, owner-ok, acks-ok, store-out, store-back, Knowledge, At, at, All, Inv, inv, Holds, Plain, plain-0, plain-3, Fine, fine-refused, fine, stranger-plain, stranger-in, ok}
@@ -58,7 +59,7 @@ abbrev Waits-after : (ℕ → Waiting) → Call → ℕ → ℕ → ℕ → Wait
 Waits-after q c kd v t = waitsForAfter t (event c (answer 0 kd v)) (q t)
 
 abbrev pub Next : Words → (ℕ → Waiting) → ℕ → Call → ℕ → ℕ → Bench → Type 0
-Next ws q n c kd v b = Inv (Words-after ws q c kd v) (Waits-after q c kd v) n b × GivesLast ws q c (answer 0 kd v)
+Next ws q n c kd v b = Inv (Words-after ws q c kd v) (Waits-after q c kd v) n b × GivesLast (λ w. getD ws w 0) q c (answer 0 kd v)
 
 -- beside an owner the directory knows nobody, so it may write the words last written
 pub data IsStranger : Relation → Type 0 where
@@ -91,7 +92,7 @@ home-kept rewritten (asked-owner a) (owner-ok cl lo c) = owner-ok cl lo c
 abbrev Keeps : Words → (ℕ → Waiting) → Call → ℕ → (Tile → Result Tile) → Type 0
 Keeps ws q c t f =
     (rel : Relation) (cur : Option Access) (ask : Option Forward) (mark : Bool) (x : Tile) → TileOk ws (q t) rel cur ask mark x
-    → Kept t (λ kd v y. TileOk (Words-after ws q c kd v) (Waits-after q c kd v t) rel cur ask mark y × Changes ws rel (Words-after ws q c kd v) × GivesLast ws q c (answer 0 kd v)) (f x)
+    → Kept t (λ kd v y. TileOk (Words-after ws q c kd v) (Waits-after q c kd v t) rel cur ask mark y × Changes ws rel (Words-after ws q c kd v) × GivesLast (λ w. getD ws w 0) q c (answer 0 kd v)) (f x)
 
 at-tile-fine : {ws : Words} {q : ℕ → Waiting} {n : ℕ} {b : Bench} (t : ℕ) (c : Call) (f : Tile → Result Tile) → ((kd v u : ℕ) → (t ≡ u → ⊥) → Waits-after q c kd v u ≡ q u) → Keeps ws q c t f → Inv ws q n b → Holds (Next ws q n c) (atTile t f b)
 unfolding atTile isMisfit

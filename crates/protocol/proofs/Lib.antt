@@ -6,6 +6,7 @@ pub mod Weight
 pub mod Sent
 pub mod Effect
 pub mod Waiting
+pub mod Written
 pub mod Fair
 pub mod Falls
 pub mod Bounded

@@ -99,5 +99,5 @@ pub order1 : Order1-statement
 order1 n one-up most mem eight cs =
     record {
       coherent = λ before later e. coherent (runs-inv n mem before);
-      last-word = λ before c later e. next-gives n mem before c;
+      last-word = λ before c later e. next-gives n mem eight before c;
     }

@@ -4,14 +4,15 @@ use mathlib.Core.Path.{_≡_, refl, sym, subst, _∙_}
 use mathlib.Core.Bool.{Bool, cond, true, false, _&&_, _||_}
 use mathlib.Core.List.{List, [], _∷_}
 use lib.Dec.{eqb}
-use lib.ListN.{length-replicate, getD-replicate}
+use lib.ListN.{length, getD, length-replicate, getD-replicate}
 use Rattle.bits.proofs.MaskLaws.{has-none}
 use Rattle.protocol.specs.Parts.{Words, Waiting, nothing, Bench, Call, load, store, evict, taking, toTile, fromTile, memoryStep, memoryAck, homeEviction, Result, refused, accepted, idle, absent}
 use Rattle.protocol.specs.Bench.{freshTile, fresh, step}
 use Rattle.protocol.specs.Demand3.{kept, after, runs, answer, answered, hasKind, event, history}
-use Rattle.protocol.specs.Order1.{waitsForAfter, writtenAfter, waitsForSince, writtenSince, waitsFor, lastWritten, GivesLast}
+use Rattle.protocol.specs.Order1.{waitsForAfter, waitsForSince, waitsFor, lastWritten, GivesLast}
 use Rattle.protocol.proofs.Invariant.{Sees, sees-absent, stranger-plain, resting, ok, absent-ok, idle-ok, At, at, Inv, inv, Holds, fine-refused, fine}
 use Rattle.protocol.proofs.Tests.{false-true}
+use Rattle.protocol.proofs.Written.{writtenAfter, writtenSince, since-word}
 use Rattle.protocol.proofs.Calls.{Next, step-fine}
 
 pub fresh-inv : (n : ℕ) (mem : Words) → Inv mem (λ t. nothing) n (fresh n mem)
@@ -62,7 +63,7 @@ refused-waits n memoryStep t x = refl
 refused-waits n memoryAck t x = refl
 refused-waits n homeEviction t x = refl
 
-refused-gives : (n : ℕ) (c : Call) (q : ℕ → Waiting) (ws : Words) → GivesLast ws q c (answer n 0 0)
+refused-gives : (n : ℕ) (c : Call) (q : ℕ → Waiting) (ws : Words) → GivesLast (λ w. getD ws w 0) q c (answer n 0 0)
 unfolding GivesLast
 refused-gives n (load t w) q ws = ((λ e. false-true (sym (no-kind-1 n) ∙ e)), no-kind-2 n)
 refused-gives n (store t w v) q ws = no-kind-1 n
@@ -84,7 +85,7 @@ kept-inv {ws} {q} {n} {b} c (refused k) i (fine-refused e) =
     (subst (λ (p : ℕ → Waiting). Inv ws p n b) (λ j t. sym (refused-waits k c t (q t)) j) i)
 kept-inv c (accepted k v b ms) i (fine p) = p .0
 
-kept-gives : (ws : Words) (q : ℕ → Waiting) (n : ℕ) (c : Call) (r : Result Bench) → Holds (Next ws q n c) r → GivesLast ws q c (answered r)
+kept-gives : (ws : Words) (q : ℕ → Waiting) (n : ℕ) (c : Call) (r : Result Bench) → Holds (Next ws q n c) r → GivesLast (λ w. getD ws w 0) q c (answered r)
 unfolding answered
 kept-gives ws q n c (refused k) (fine-refused e) = refused-gives k c q ws
 kept-gives ws q n c (accepted k v b ms) (fine p) = p .1
@@ -96,10 +97,21 @@ unfolding runs after history writtenSince waitsForSince
 since-inv [] i = i
 since-inv {b} (c ∷ cs) i = since-inv cs (kept-inv c (step c b) i (step-fine c i))
 
-pub runs-inv : (n : ℕ) (mem : Words) (cs : List Call) → Inv (lastWritten mem (history cs (fresh n mem))) (waitsFor (history cs (fresh n mem))) n (runs cs (fresh n mem))
-unfolding lastWritten waitsFor
+-- the words last written after a list of calls on a fresh bench
+abbrev pub wordsLast : ℕ → Words → List Call → Words
+wordsLast n mem cs = writtenSince (λ t. nothing) mem (history cs (fresh n mem))
+
+pub runs-inv : (n : ℕ) (mem : Words) (cs : List Call) → Inv (wordsLast n mem cs) (waitsFor (history cs (fresh n mem))) n (runs cs (fresh n mem))
+unfolding waitsFor
 runs-inv n mem cs = since-inv cs (fresh-inv n mem)
 
+word-last : (n : ℕ) (mem : Words) → length mem ≡ 8 → (cs : List Call) (w : ℕ) → getD (wordsLast n mem cs) w 0 ≡ lastWritten mem (history cs (fresh n mem)) w
+unfolding lastWritten
+word-last n mem eight cs w = since-word cs (fresh n mem) (λ t. nothing) mem w eight (λ t. tt)
+
 -- the next call's answer
-pub next-gives : (n : ℕ) (mem : Words) (cs : List Call) (c : Call) → GivesLast (lastWritten mem (history cs (fresh n mem))) (waitsFor (history cs (fresh n mem))) c (answered (step c (runs cs (fresh n mem))))
-next-gives n mem cs c = kept-gives _ _ n c (step c (runs cs (fresh n mem))) (step-fine c (runs-inv n mem cs))
+pub next-gives : (n : ℕ) (mem : Words) → length mem ≡ 8 → (cs : List Call) (c : Call)
+    → GivesLast (lastWritten mem (history cs (fresh n mem))) (waitsFor (history cs (fresh n mem))) c (answered (step c (runs cs (fresh n mem))))
+next-gives n mem eight cs c =
+    subst (λ (last : ℕ → ℕ). GivesLast last (waitsFor (history cs (fresh n mem))) c (answered (step c (runs cs (fresh n mem))))) (λ j w. word-last n mem eight cs w j)
+    (kept-gives _ _ n c (step c (runs cs (fresh n mem))) (step-fine c (runs-inv n mem cs)))

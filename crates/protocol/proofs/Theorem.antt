@@ -7,11 +7,11 @@ use native.Mathlib.Nat.{le-trans}
 use Rattle.protocol.specs.Parts.{Words, Bench, Call, Result, idle, absent}
 use Rattle.protocol.specs.Bench.{freshTile, fresh}
 use Rattle.protocol.specs.Demand3.{kept, after, runs, answered, isMisfit, canBeAccepted, history, waits, next, Demand3-statement}
-use Rattle.protocol.specs.Order1.{waitsFor, lastWritten}
+use Rattle.protocol.specs.Order1.{waitsFor}
 use Rattle.protocol.proofs.Invariant.{Inv, Holds, fine-refused, fine}
 use Rattle.protocol.proofs.Tests.{clash}
 use Rattle.protocol.proofs.Calls.{step-fine}
-use Rattle.protocol.proofs.Runs.{runs-inv}
+use Rattle.protocol.proofs.Runs.{wordsLast, runs-inv}
 use Rattle.protocol.proofs.Bound.{measure-bound}
 use Rattle.protocol.proofs.Quiet.{settled, next-delivery}
 use Rattle.protocol.proofs.Bounded.{bounded-by}
@@ -39,7 +39,7 @@ demand3 n one-up most mem eight cs =
     b : Bench
     b = runs cs (fresh n mem)
 
-    i : Inv (lastWritten mem (history cs (fresh n mem))) (waitsFor (history cs (fresh n mem))) n b
+    i : Inv (wordsLast n mem cs) (waitsFor (history cs (fresh n mem))) n b
     i = runs-inv n mem cs
 
     accepted-next : (t : ℕ) → waits t (history cs (fresh n mem)) ≡ true → (x : Bool) → canBeAccepted (next b) b ≡ x → canBeAccepted (next b) b ≡ true

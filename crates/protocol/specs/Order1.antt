@@ -4,7 +4,7 @@ use mathlib.Core.Path.{_≡_}
 use mathlib.Core.Bool.{Bool, cond, true, false, _&&_, _||_}
 use mathlib.Core.List.{List, [], _∷_, _++_}
 use lib.Dec.{eqb}
-use lib.ListN.{length, getD, set}
+use lib.ListN.{length, getD}
 use Rattle.bits.specs.Mask.{has}
 use Rattle.protocol.specs.Parts.{Words, shared, exclusive, modified, invalid, valid, Waiting, nothing, forLoad, forStore, Tile, tileOf, Directory, uncached, sharedBy, ownedBy, Line, absent, present, Home, idle, awaitingLoad, awaitingOwner, awaitingAcks, awaitingStore, Bench, benchOf, Call, load, store, evict, taking, toTile, fromTile, memoryStep, memoryAck, homeEviction}
 use Rattle.protocol.specs.Bench.{fresh, tileAt, step}
@@ -51,7 +51,7 @@ pub record Coherent (b : Bench) : Type 0 where
   -- every tile that holds the line is named by the directory
   pub named : (t : ℕ) → holds (tileAt (tilesOf b) t) ≡ true → names (directoryOf b) t ≡ true
 
--- ---- the words last written, from the history of calls and answers alone
+-- ---- the word last written, from the history of calls and answers alone
 
 -- What tile t waits for, x before the event: from the accepted call that sends its request to the accepted delivery to it of
 -- kind 1 or 2, as in demand 3.
@@ -66,62 +66,61 @@ waitsForAfter t (event memoryStep r) x = x
 waitsForAfter t (event memoryAck r) x = x
 waitsForAfter t (event homeEviction r) x = x
 
--- the words ws with the store that a tile waited for
-unfoldable pub writes : Waiting → Words → Words
-writes nothing ws = ws
-writes (forLoad w) ws = ws
-writes (forStore w v) ws = set ws w v
+-- the word w, x before, after the store that a tile waited for
+unfoldable pub storedWord : ℕ → Waiting → ℕ → ℕ
+storedWord w nothing x = x
+storedWord w (forLoad u) x = x
+storedWord w (forStore u v) x = cond (eqb u w) v x
 
--- The words last written, ws before the event, with q t what tile t waited for: a store of kind 2 writes, at a hit its own word
--- and value, at a fill those of the store that its tile waited for.
-unfoldable pub writtenAfter : Event → (ℕ → Waiting) → Words → Words
-writtenAfter (event (load t w) r) q ws = ws
-writtenAfter (event (store t w v) r) q ws = cond (hasKind 2 r) (set ws w v) ws
-writtenAfter (event (evict t) r) q ws = ws
-writtenAfter (event taking r) q ws = ws
-writtenAfter (event (toTile t) r) q ws = cond (hasKind 2 r) (writes (q t) ws) ws
-writtenAfter (event (fromTile t) r) q ws = ws
-writtenAfter (event memoryStep r) q ws = ws
-writtenAfter (event memoryAck r) q ws = ws
-writtenAfter (event homeEviction r) q ws = ws
+-- The word w last written, x before the event, with q t what tile t waited for: a store of kind 2 writes, at a hit its own word and
+-- value, at a fill those of the store that its tile waited for.
+unfoldable pub wordAfter : ℕ → Event → (ℕ → Waiting) → ℕ → ℕ
+wordAfter w (event (load t u) r) q x = x
+wordAfter w (event (store t u v) r) q x = cond (hasKind 2 r) (storedWord w (forStore u v) x) x
+wordAfter w (event (evict t) r) q x = x
+wordAfter w (event taking r) q x = x
+wordAfter w (event (toTile t) r) q x = cond (hasKind 2 r) (storedWord w (q t) x) x
+wordAfter w (event (fromTile t) r) q x = x
+wordAfter w (event memoryStep r) q x = x
+wordAfter w (event memoryAck r) q x = x
+wordAfter w (event homeEviction r) q x = x
 
 -- along a history
 unfoldable pub waitsForSince : (ℕ → Waiting) → List Event → ℕ → Waiting
 waitsForSince q [] = q
 waitsForSince q (e ∷ es) = waitsForSince (λ t. waitsForAfter t e (q t)) es
 
-unfoldable pub writtenSince : (ℕ → Waiting) → Words → List Event → Words
-writtenSince q ws [] = ws
-writtenSince q ws (e ∷ es) = writtenSince (λ t. waitsForAfter t e (q t)) (writtenAfter e q ws) es
+unfoldable pub wordSince : ℕ → (ℕ → Waiting) → ℕ → List Event → ℕ
+wordSince w q x [] = x
+wordSince w q x (e ∷ es) = wordSince w (λ t. waitsForAfter t e (q t)) (wordAfter w e q x) es
 
--- from a fresh bench, in which nobody waits: what tile t waits for, and the eight words last written, each the starting memory word
--- where no store was
+-- from a fresh bench, in which nobody waits: what tile t waits for; the word w last written, or the starting memory word where none was
 unfoldable pub waitsFor : List Event → ℕ → Waiting
 waitsFor es = waitsForSince (λ t. nothing) es
 
-unfoldable pub lastWritten : Words → List Event → Words
-lastWritten mem es = writtenSince (λ t. nothing) mem es
+unfoldable pub lastWritten : Words → List Event → ℕ → ℕ
+lastWritten mem es w = wordSince w (λ t. nothing) (getD mem w 0) es
 
 -- ---- the claim
 
 unfoldable pub valueOf : Answer → ℕ
 valueOf (answer n k v) = v
 
--- What is claimed of the call c, answered r, with ws the words last written before it and q t what tile t then waits for.
-unfoldable pub GivesLast : Words → (ℕ → Waiting) → Call → Answer → Type 0
--- a load answered at a hit gives its word of ws
-GivesLast ws q (load t w) r = (hasKind 1 r ≡ true → valueOf r ≡ getD ws w 0) × (hasKind 2 r ≡ false)
-GivesLast ws q (store t w v) r = hasKind 1 r ≡ false
--- a load answered at a fill is the one that its tile waits for, and gives its word of ws; so is a store
-GivesLast ws q (toTile t) r =
-    (hasKind 1 r ≡ true → (w : ℕ) × (q t ≡ forLoad w) × (valueOf r ≡ getD ws w 0)) × (hasKind 2 r ≡ true → (w : ℕ) × (v : ℕ) × (q t ≡ forStore w v))
+-- What is claimed of the call c, answered r, with last w the word w last written before it and q t what tile t then waits for.
+unfoldable pub GivesLast : (ℕ → ℕ) → (ℕ → Waiting) → Call → Answer → Type 0
+-- a load answered at a hit gives the word last written
+GivesLast last q (load t w) r = (hasKind 1 r ≡ true → valueOf r ≡ last w) × (hasKind 2 r ≡ false)
+GivesLast last q (store t w v) r = hasKind 1 r ≡ false
+-- a load answered at a fill is the one that its tile waits for, and gives the word last written; so is a store
+GivesLast last q (toTile t) r =
+    (hasKind 1 r ≡ true → (w : ℕ) × (q t ≡ forLoad w) × (valueOf r ≡ last w)) × (hasKind 2 r ≡ true → (w : ℕ) × (v : ℕ) × (q t ≡ forStore w v))
 -- no other call answers a load or a store
-GivesLast ws q (evict t) r = (hasKind 1 r ≡ false) × (hasKind 2 r ≡ false)
-GivesLast ws q taking r = (hasKind 1 r ≡ false) × (hasKind 2 r ≡ false)
-GivesLast ws q (fromTile t) r = (hasKind 1 r ≡ false) × (hasKind 2 r ≡ false)
-GivesLast ws q memoryStep r = (hasKind 1 r ≡ false) × (hasKind 2 r ≡ false)
-GivesLast ws q memoryAck r = (hasKind 1 r ≡ false) × (hasKind 2 r ≡ false)
-GivesLast ws q homeEviction r = (hasKind 1 r ≡ false) × (hasKind 2 r ≡ false)
+GivesLast last q (evict t) r = (hasKind 1 r ≡ false) × (hasKind 2 r ≡ false)
+GivesLast last q taking r = (hasKind 1 r ≡ false) × (hasKind 2 r ≡ false)
+GivesLast last q (fromTile t) r = (hasKind 1 r ≡ false) × (hasKind 2 r ≡ false)
+GivesLast last q memoryStep r = (hasKind 1 r ≡ false) × (hasKind 2 r ≡ false)
+GivesLast last q memoryAck r = (hasKind 1 r ≡ false) × (hasKind 2 r ≡ false)
+GivesLast last q homeEviction r = (hasKind 1 r ≡ false) × (hasKind 2 r ≡ false)
 
 -- The claim, of n tiles, eight memory words and a list of calls.
 pub record Order1 (n : ℕ) (mem : Words) (cs : List Call) : Type 0 where
