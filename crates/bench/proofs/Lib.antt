@@ -11,3 +11,4 @@ pub mod HomeCalls
 pub mod Started
 pub mod RoundTrip
 pub mod Demand3
+pub mod Order1
