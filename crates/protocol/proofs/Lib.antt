@@ -24,3 +24,4 @@ pub mod Quiet
 pub mod Theorem
 pub mod Order1
 pub mod Examples
+pub mod LastWords
