@@ -111,7 +111,8 @@ unfoldable pub GivesLast : (ℕ → ℕ) → (ℕ → Waiting) → Call → Answ
 -- a load answered at a hit gives the word last written
 GivesLast last q (load t w) r = (hasKind 1 r ≡ true → valueOf r ≡ last w) × (hasKind 2 r ≡ false)
 GivesLast last q (store t w v) r = hasKind 1 r ≡ false
--- a load answered at a fill is the one that its tile waits for, and gives the word last written; so is a store
+-- a load answered at a fill is the one that its tile waits for, and gives the word last written; a store answered at a fill is the one that its
+-- tile waits for
 GivesLast last q (toTile t) r =
     (hasKind 1 r ≡ true → (w : ℕ) × (q t ≡ forLoad w) × (valueOf r ≡ last w)) × (hasKind 2 r ≡ true → (w : ℕ) × (v : ℕ) × (q t ≡ forStore w v))
 -- no other call answers a load or a store
