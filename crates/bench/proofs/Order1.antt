@@ -5,7 +5,7 @@ use mathlib.Core.Bool.{true}
 use mathlib.Core.List.{List, [], _∷_}
 use lib.ListN.{drop}
 use Rattle.codec.specs.Decode.{decoded}
-use Rattle.protocol.specs.Parts.{Words, Bench, Call}
+use Rattle.protocol.specs.Parts.{Bench, Call}
 use Rattle.protocol.specs.Bench.{fresh, step}
 use Rattle.protocol.specs.Demand3 as rules
 use Rattle.protocol.specs.Demand3.{runs, answer, answered, Event, event, history}

@@ -14,7 +14,7 @@ use Rattle.protocol.specs.Parts.{Words, Queue, empty, Access, reading, w
 use Rattle.protocol.specs.Home.{Move, move, range, among, members, grantShared, grantOwner, ownRight, askedFor, askOwner, invalidateTo, invalidate, leave}
 use Rattle.protocol.specs.Bench.{freshTile, tileAt, push, sendOne, sendTo, send, sent, posted, kindOf}
 use Rattle.protocol.proofs.Tests.{clash, by-test, at-or-not}
-use Rattle.protocol.proofs.Invariant.{Relation, stranger, sharer, owner, Askable, ask-load, ask-store, ask-inv, AsksFor, asks-load, asks-store, asks-eviction, Apart, ApartFrom, Sees, sees-absent, sees-sharer, sees-outsider, sees-owner, sees-unowning, asked-owner, requester, bystander, owing, storer, cleared-out, sees-leaving, InMask, Clean, clean, dirty, absent-ok, shared-ok, owned-ok, CauseOk, ClearingOk, Inside, idle-ok, owner-ok, acks-ok, store-out, Knowledge, At, at, All, Inv, inv, Plain, plain-0, plain-3, Fine, fine}
+use Rattle.protocol.proofs.Invariant.{Relation, stranger, sharer, owner, Askable, ask-load, ask-store, ask-inv, AsksFor, asks-load, asks-store, asks-eviction, Apart, ApartFrom, Sees, sees-absent, sees-sharer, sees-outsider, sees-owner, sees-unowning, asked-owner, requester, bystander, owing, storer, cleared-out, sees-leaving, InMask, Clean, clean, absent-ok, shared-ok, owned-ok, CauseOk, ClearingOk, Inside, idle-ok, owner-ok, acks-ok, store-out, Knowledge, At, at, All, Inv, inv, Plain, plain-0, plain-3, Fine, fine}
 use Rattle.protocol.proofs.ViewSteps.{GrantFrom, Placed, placed, grant-owner, ShareFrom, grant-shared, ask-tile}
 
 -- ---- one tile replaced, all others as before

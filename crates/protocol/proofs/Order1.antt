@@ -1,19 +1,16 @@
 -- Order 1, whole: of every number of tiles from 1 to 64, all memory words and every list of calls. Assumes nothing.
 use Prim.Native.Nat.{ℕ, _<_}
-use mathlib.Core.Path.{_≡_, refl, sym, subst}
+use mathlib.Core.Path.{_≡_, refl}
 use mathlib.Core.Bool.{Bool, true, false}
-use mathlib.Core.List.{List}
-use mathlib.Core.Option.{Option, some, none}
+use mathlib.Core.Option.{Option}
 use native.Mathlib.Omega.{arith}
-use lib.Dec.{eqb}
 use lib.ListN.{length}
-use Rattle.bits.specs.Mask.{has}
-use Rattle.protocol.specs.Parts.{Words, Waiting, Queue, Access, Forward, ToMemory, FromMemory, Tile, Home, Bench, benchOf}
-use Rattle.protocol.specs.Bench.{freshTile, tileAt, fresh}
-use Rattle.protocol.specs.Demand3.{runs, tilesOf}
+use Rattle.protocol.specs.Parts.{Words, Waiting, Queue, Access, Forward, ToMemory, FromMemory, Tile, Home, Bench}
+use Rattle.protocol.specs.Bench.{tileAt}
+use Rattle.protocol.specs.Demand3.{tilesOf}
 use Rattle.protocol.specs.Order1.{holds, mayWrite, lineDirectory, homeDirectory, directoryOf, names, Coherent, Order1-statement}
 use Rattle.protocol.proofs.Tests.{false-true, clash, eqb-same, at-or-not, there}
-use Rattle.protocol.proofs.Invariant.{Relation, sharer, owner, shares-I, shares-S, owns-I, owns-E, owns-M, sent-E, sent-M, weak-I, weak-S, stranger-plain, stranger-in, sharer-plain, sharer-replied, owner-plain, owner-replied, owner-shared, owner-out, owner-out-replied, owner-in, owner-in-replied, TileOk, ok, Sees, sees-sharer, sees-owner, asked-owner, owing, storer, in-mask, off-mask, HomeOk, acks-ok, At, at, Inv, inv}
+use Rattle.protocol.proofs.Invariant.{Relation, sharer, owner, shares-I, shares-S, stranger-plain, stranger-in, sharer-plain, sharer-replied, owner-plain, owner-replied, owner-shared, owner-out, owner-out-replied, owner-in, owner-in-replied, TileOk, ok, Sees, sees-sharer, sees-owner, asked-owner, owing, storer, in-mask, HomeOk, acks-ok, At, at, Inv, inv}
 use Rattle.protocol.proofs.Calls.{IsStranger, is-stranger, beside-owner}
 use Rattle.protocol.proofs.Runs.{runs-inv, next-gives}
 

@@ -1,12 +1,11 @@
 -- Demand 3, whole: of every number of tiles from 1 to 64, all memory words and every list of calls. Assumes nothing.
 use Prim.Native.Nat.{ℕ}
-use mathlib.Core.Path.{_≡_, refl, sym, subst, _∙_}
+use mathlib.Core.Path.{_≡_, refl, _∙_}
 use mathlib.Core.Bool.{Bool, true, false}
-use mathlib.Core.List.{List, [], _∷_}
 use native.Mathlib.Nat.{le-trans}
-use Rattle.protocol.specs.Parts.{Words, Bench, Call, Result, idle, absent}
-use Rattle.protocol.specs.Bench.{freshTile, fresh}
-use Rattle.protocol.specs.Demand3.{kept, after, runs, answered, isMisfit, canBeAccepted, history, waits, next, Demand3-statement}
+use Rattle.protocol.specs.Parts.{Bench, Result}
+use Rattle.protocol.specs.Bench.{fresh}
+use Rattle.protocol.specs.Demand3.{runs, answered, isMisfit, canBeAccepted, history, waits, next, Demand3-statement}
 use Rattle.protocol.specs.Order1.{waitsFor}
 use Rattle.protocol.proofs.Invariant.{Inv, Holds, fine-refused, fine}
 use Rattle.protocol.proofs.Tests.{clash}

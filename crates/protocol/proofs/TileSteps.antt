@@ -13,7 +13,7 @@ use Rattle.protocol.specs.Bench.{push, onTile1, onTile2, onTile3}
 use Rattle.protocol.specs.Demand3.{answer, isMisfit, hasKind}
 use Rattle.protocol.proofs.Tests.{false-true}
 use Rattle.protocol.proofs.Written.{writes}
-use Rattle.protocol.proofs.Invariant.{Relation, sharer, owner, join, Weak, weak-I, weak-S, Shares, shares-I, shares-S, Wants, resting, loadQueued, storeQueued, loadCurrent, storeCurrent, sharedGranted, exclusiveGranted, modifiedGranted, Askable, not-asked, ask-load, ask-store, ask-inv, SharedData, no-data, shared-data, Owns, owns-I, owns-E, owns-M, sent-E, sent-M, replies-load, replies-store, answers-load, answers-store, Table, stranger-plain, stranger-in, sharer-plain, sharer-replied, owner-plain, owner-replied, owner-shared, owner-out, owner-out-replied, owner-in, owner-in-replied, TileOk, ok, Plain, plain-0, plain-3}
+use Rattle.protocol.proofs.Invariant.{Relation, sharer, owner, join, weak-I, weak-S, Shares, shares-I, shares-S, Wants, resting, loadQueued, storeQueued, loadCurrent, storeCurrent, sharedGranted, exclusiveGranted, modifiedGranted, Askable, not-asked, ask-load, ask-store, ask-inv, SharedData, no-data, shared-data, Owns, owns-I, owns-E, owns-M, sent-E, sent-M, replies-load, replies-store, answers-load, answers-store, Table, stranger-plain, stranger-in, sharer-plain, sharer-replied, owner-plain, owner-replied, owner-shared, owner-out, owner-out-replied, owner-in, owner-in-replied, TileOk, ok, Plain, plain-0, plain-3}
 
 -- a tile's rule at tile t: refused, and not by 8 or 9; or accepted, with P of kind, value and the tile once the messages are on its queues
 pub data Kept (t : ℕ) (P : ℕ → ℕ → Tile → Type 0) : Result Tile → Type 0 where
