@@ -68,7 +68,7 @@ pub data Owns (ws hs : Words) : Cache → Option Forward → Type 0 where
   owns-E : hs ≡ ws → Owns ws hs (valid exclusive ws) none
   owns-M : Owns ws hs (valid modified ws) none
   sent-E : {miss : Bool} → hs ≡ ws → Owns ws hs invalid (some (dataAck exclusive miss ws))
-  sent-M : {c : Cache} {miss : Bool} → hs ≡ ws → Weak c → Owns ws hs c (some (dataAck modified miss ws))
+  sent-M : {c : Cache} {miss : Bool} → hs ≡ ws → Shares ws c → Owns ws hs c (some (dataAck modified miss ws))
 
 -- what an owner in I answers while its write-back is outstanding, and what without one: its ack leaves the home the words last written
 pub data Replies : Forward → Reply → Type 0 where

@@ -120,7 +120,7 @@ drop-owns ne (owns-I e) = owns-I e
 drop-owns ne (owns-E e) = owns-I e
 drop-owns ne owns-M = absurd (ne refl)
 drop-owns ne (sent-E e) = sent-E e
-drop-owns ne (sent-M e k) = sent-M e weak-I
+drop-owns ne (sent-M e k) = sent-M e shares-I
 
 -- a line in S or E is dropped
 drop-table : {ws : Words} {rel : Relation} {cur : Option Access} {ask : Option Forward} {mark : Bool} {c : Cache} {g : Option Request} {w a : Option Reply} {d f : Option Forward}
@@ -138,7 +138,7 @@ drop-table ne (owner-in e k) = owner-in e k
 drop-table ne (owner-in-replied e r) = owner-in-replied e r
 
 -- the state tells
-abbrev pub isModified : Cache → Bool
+abbrev isModified : Cache → Bool
 isModified invalid = false
 isModified (valid shared us) = false
 isModified (valid exclusive us) = false
@@ -208,20 +208,20 @@ to-owner t not-asked (owns-I h) e = kept-refused refl
 to-owner t not-asked (owns-E h) e = kept-refused refl
 to-owner t not-asked owns-M e = kept-refused refl
 to-owner t not-asked (sent-E h) (exclusiveGranted {w}) = kept-silent (answered-load w (ok (owner-plain not-asked (owns-E h)) resting))
-to-owner t not-asked (sent-M h weak-I) (modifiedGranted {w} {v} k) = kept-silent (answered-store w v (ok (owner-plain not-asked owns-M) resting))
-to-owner t not-asked (sent-M h weak-S) (modifiedGranted {w} {v} k) = kept-silent (answered-store w v (ok (owner-plain not-asked owns-M) resting))
+to-owner t not-asked (sent-M h shares-I) (modifiedGranted {w} {v} k) = kept-silent (answered-store w v (ok (owner-plain not-asked owns-M) resting))
+to-owner t not-asked (sent-M h shares-S) (modifiedGranted {w} {v} k) = kept-silent (answered-store w v (ok (owner-plain not-asked owns-M) resting))
 to-owner t ask-load (owns-I h) e = kept-reply refl (replied (ok (owner-replied (answers-load h)) e))
 to-owner t ask-load (owns-E h) resting = kept-reply refl (replied (ok (owner-shared shares-S h) resting))
 to-owner {ws} t ask-load owns-M resting = kept-reply refl (replied (ok (owner-shared {x = some ws} shares-S refl) resting))
 to-owner t ask-load (sent-E h) (exclusiveGranted {w}) = kept-silent (answered-load w (ok (owner-plain ask-load (owns-E h)) resting))
-to-owner t ask-load (sent-M h weak-I) (modifiedGranted {w} {v} k) = kept-silent (answered-store w v (ok (owner-plain ask-load owns-M) resting))
-to-owner t ask-load (sent-M h weak-S) (modifiedGranted {w} {v} k) = kept-silent (answered-store w v (ok (owner-plain ask-load owns-M) resting))
+to-owner t ask-load (sent-M h shares-I) (modifiedGranted {w} {v} k) = kept-silent (answered-store w v (ok (owner-plain ask-load owns-M) resting))
+to-owner t ask-load (sent-M h shares-S) (modifiedGranted {w} {v} k) = kept-silent (answered-store w v (ok (owner-plain ask-load owns-M) resting))
 to-owner t ask-store (owns-I h) e = kept-reply refl (replied (ok (owner-replied (answers-store h)) e))
 to-owner t ask-store (owns-E h) e = kept-reply refl (replied (ok (owner-replied (answers-store h)) (drop-wants e)))
 to-owner {ws} t ask-store owns-M e = kept-reply refl (replied (ok (owner-replied (answers-store {x = some ws} refl)) (drop-wants e)))
 to-owner t ask-store (sent-E h) (exclusiveGranted {w}) = kept-silent (answered-load w (ok (owner-plain ask-store (owns-E h)) resting))
-to-owner t ask-store (sent-M h weak-I) (modifiedGranted {w} {v} k) = kept-silent (answered-store w v (ok (owner-plain ask-store owns-M) resting))
-to-owner t ask-store (sent-M h weak-S) (modifiedGranted {w} {v} k) = kept-silent (answered-store w v (ok (owner-plain ask-store owns-M) resting))
+to-owner t ask-store (sent-M h shares-I) (modifiedGranted {w} {v} k) = kept-silent (answered-store w v (ok (owner-plain ask-store owns-M) resting))
+to-owner t ask-store (sent-M h shares-S) (modifiedGranted {w} {v} k) = kept-silent (answered-store w v (ok (owner-plain ask-store owns-M) resting))
 
 pub deliver-kept : {ws : Words} {p : Waiting} {rel : Relation} {cur : Option Access} {ask : Option Forward} {mark : Bool} {x : Tile} (t : ℕ) → TileOk ws p rel cur ask mark x → Delivered ws p t rel cur ask mark x
 unfolding deliverTo received receive isMisfit onTile3 push

@@ -3,12 +3,12 @@ use Prim.Native.Nat.{ℕ}
 use mathlib.Core.Path.{_≡_, refl, sym}
 use mathlib.Core.Bool.{Bool, true, false}
 use mathlib.Core.Option.{Option, some, none}
-use Rattle.protocol.specs.Parts.{Words, Access, reading, writing, shared, Cache, Waiting, Request, loadReq, storeReq, wbGuardReq, Forward, loadFwd, storeFwd, invFwd, dataAck, Reply, wbReq, loadFwdAckS, loadFwdAckI, storeFwdAck, invFwdAck, Tile}
+use Rattle.protocol.specs.Parts.{Words, Access, reading, writing, shared, exclusive, modified, Cache, invalid, valid, Waiting, Request, loadReq, storeReq, wbGuardReq, Forward, loadFwd, storeFwd, invFwd, dataAck, Reply, wbReq, loadFwdAckS, loadFwdAckI, storeFwdAck, invFwdAck, Tile}
 use Rattle.protocol.specs.Home.{ownRight, wordsAfter}
 use Rattle.protocol.specs.Bench.{push, front, rest, onTile2, eligible, noc1, popNoc1, noc3, popNoc3}
 use Rattle.protocol.proofs.Tests.{false-true}
 use Rattle.protocol.proofs.Invariant.{Relation, stranger, sharer, owner, Weak, weak-I, weak-S, shares-I, resting, loadQueued, storeQueued, loadCurrent, storeCurrent, sharedGranted, exclusiveGranted, modifiedGranted, Askable, not-asked, ask-load, ask-store, ask-inv, no-data, shared-data, owns-I, owns-E, owns-M, sent-E, sent-M, replies-load, replies-store, answers-load, answers-store, stranger-plain, stranger-in, sharer-plain, sharer-replied, owner-plain, owner-replied, owner-shared, owner-out, owner-out-replied, owner-in, owner-in-replied, TileOk, ok}
-use Rattle.protocol.proofs.TileSteps.{on2, isModified}
+use Rattle.protocol.proofs.TileSteps.{on2}
 
 -- ---- taking
 
@@ -55,23 +55,32 @@ pub data GrantFrom : Relation → Access → Type 0 where
 pub data Placed (m : Forward) (x : Tile) (P : Tile → Type 0) : Type 0 where
   placed : {y : Tile} → onTile2 m x ≡ some y → P y → Placed m x P
 
+-- I and S are not E or M
+abbrev isOwned : Cache → Bool
+isOwned invalid = false
+isOwned (valid shared us) = false
+isOwned (valid exclusive us) = true
+isOwned (valid modified us) = true
+
+weak-unowned : {c : Cache} → Weak c → isOwned c ≡ false
+weak-unowned weak-I = refl
+weak-unowned weak-S = refl
+
 pub grant-owner : {ws : Words} {p : Waiting} {rel : Relation} {a : Access} {mark miss : Bool} {x : Tile} → GrantFrom rel a → TileOk ws p rel (some a) none mark x → Placed (dataAck (ownRight a) miss ws) x (TileOk ws p (owner ws) none none mark)
 unfolding onTile2 push ownRight
 grant-owner from-stranger (ok stranger-plain loadCurrent) = placed refl (ok (owner-plain not-asked (sent-E refl)) exclusiveGranted)
-grant-owner from-stranger (ok stranger-plain (storeCurrent k)) = placed refl (ok (owner-plain not-asked (sent-M refl k)) (modifiedGranted k))
-grant-owner from-sharer (ok (sharer-plain not-asked c s) (storeCurrent k)) = placed refl (ok (owner-plain not-asked (sent-M refl k)) (modifiedGranted k))
+grant-owner from-stranger (ok stranger-plain (storeCurrent k)) = placed refl (ok (owner-plain not-asked (sent-M refl shares-I)) (modifiedGranted k))
+grant-owner from-sharer (ok (sharer-plain not-asked c s) (storeCurrent k)) = placed refl (ok (owner-plain not-asked (sent-M refl c)) (modifiedGranted k))
 grant-owner from-owner (ok (owner-plain not-asked o) loadCurrent) = placed refl (ok (owner-plain not-asked (sent-E refl)) exclusiveGranted)
-grant-owner from-owner (ok (owner-plain not-asked o) (storeCurrent k)) = placed refl (ok (owner-plain not-asked (sent-M refl k)) (modifiedGranted k))
-
-weak-not-M : {c : Cache} → Weak c → isModified c ≡ false
-weak-not-M weak-I = refl
-weak-not-M weak-S = refl
+grant-owner from-owner (ok (owner-plain not-asked (owns-I h)) (storeCurrent k)) = placed refl (ok (owner-plain not-asked (sent-M refl shares-I)) (modifiedGranted k))
+grant-owner from-owner (ok (owner-plain not-asked (owns-E h)) (storeCurrent k)) = false-true (sym (weak-unowned k))
+grant-owner from-owner (ok (owner-plain not-asked owns-M) (storeCurrent k)) = false-true (sym (weak-unowned k))
 
 -- an owner whose request the home serves has nothing under way, and is in I: the home's words are the last written
 pub asking-owner : {ws hs : Words} {p : Waiting} {a : Access} {mark : Bool} {x : Tile} → TileOk ws p (owner hs) (some a) none mark x → hs ≡ ws
 asking-owner (ok (owner-plain not-asked (owns-I h)) k) = h
 asking-owner (ok (owner-plain not-asked (owns-E h)) k) = h
-asking-owner (ok (owner-plain not-asked owns-M) (storeCurrent k)) = false-true (sym (weak-not-M k))
+asking-owner (ok (owner-plain not-asked owns-M) (storeCurrent k)) = false-true (sym (weak-unowned k))
 
 -- a grant of S
 pub data ShareFrom : Relation → Type 0 where
