@@ -11,7 +11,7 @@ use lib.ListN.{length}
 use Rattle.protocol.specs.Parts.{Words, Access, Cache, Waiting, Request, Forward, Reply, Tile, uncached, sharedBy, ownedBy, absent, present, Cause, request, eviction, Clearing, clearForStore, clearForEviction, Home, idle, awaitingLoad, awaitingOwner, awaitingAcks, awaitingStore, Bench}
 use Rattle.protocol.specs.Bench.{tileAt}
 use Rattle.coherence.proofs.Weight.{queueWeight, requestWeight, forwardWeight, replyWeight, outWeight, backWeight, tileWeight, tilesWeight, causeWeight, clearingWeight, homeWeight, measure}
-use Rattle.coherence.proofs.Invariant.{Relation, stranger, sharer, owner, join, Wants, resting, loadQueued, storeQueued, loadCurrent, storeCurrent, sharedGranted, exclusiveGranted, modifiedGranted, not-asked, ask-load, ask-store, ask-inv, Table, stranger-plain, stranger-in, sharer-plain, sharer-replied, owner-plain, owner-replied, owner-shared, owner-out, owner-out-replied, owner-in, owner-in-replied, TileOk, ok, Sees, sees-absent, sees-uncached, sees-sharer, sees-outsider, sees-owner, sees-unowning, loads, loads-not, asked-owner, requester, bystander, owing, storer, cleared-out, sees-leaving, absent-ok, uncached-ok, shared-ok, owned-ok, idle-ok, load-out, load-back, owner-ok, acks-ok, store-out, store-back, At, at, All, Inv, inv}
+use Rattle.coherence.proofs.Invariant.{Relation, stranger, sharer, owner, join, Wants, resting, loadQueued, storeQueued, loadCurrent, storeCurrent, sharedGranted, exclusiveGranted, modifiedGranted, not-asked, ask-load, ask-store, ask-inv, Table, stranger-plain, stranger-in, sharer-plain, sharer-replied, owner-plain, owner-replied, owner-shared, owner-out, owner-out-replied, owner-in, owner-in-replied, TileOk, ok, Sees, sees-absent, sees-uncached, sees-sharer, sees-outsider, sees-owner, sees-unowning, loads, loads-not, asked-owner, requester, bystander, owing, storer, cleared-out, sees-leaving, in-mask, off-mask, absent-ok, uncached-ok, shared-ok, owned-ok, idle-ok, load-out, load-back, owner-ok, acks-ok, store-out, store-back, Knowledge, At, at, All, Inv, inv}
 
 -- ---- one tile
 
@@ -44,10 +44,10 @@ abbrev extra : Relation → Option Forward → ℕ
 extra stranger k = 0
 extra sharer none = 0
 extra sharer (some f) = 2
-extra owner none = 1
-extra owner (some f) = 3
+extra (owner hs) none = 1
+extra (owner hs) (some f) = 3
 
-table-weight : {rel : Relation} {cur : Option Access} {ask : Option Forward} {mark : Bool} {c : Cache} {d f : Option Forward} {g : Option Request} {w a : Option Reply} (n : ℕ) → Table rel cur ask mark c d g w f a
+table-weight : {ws : Words} {rel : Relation} {cur : Option Access} {ask : Option Forward} {mark : Bool} {c : Cache} {d f : Option Forward} {g : Option Request} {w a : Option Reply} (n : ℕ) → Table ws rel cur ask mark c d g w f a
     → weightOf (requestWeight n) g + weightOf replyWeight w + weightOf forwardWeight f + weightOf replyWeight a ≤ 1 + extra rel ask
 unfolding requestWeight forwardWeight replyWeight
 table-weight n stranger-plain = omega arith
@@ -59,16 +59,16 @@ table-weight n (owner-plain not-asked o) = omega arith
 table-weight n (owner-plain ask-load o) = omega arith
 table-weight n (owner-plain ask-store o) = omega arith
 table-weight n (owner-replied r) = omega arith
-table-weight n (owner-shared c) = omega arith
+table-weight n (owner-shared c e) = omega arith
 table-weight n (owner-out not-asked) = omega arith
 table-weight n (owner-out ask-load) = omega arith
 table-weight n (owner-out ask-store) = omega arith
 table-weight n (owner-out-replied r) = omega arith
-table-weight n (owner-in ask-load) = omega arith
-table-weight n (owner-in ask-store) = omega arith
-table-weight n (owner-in-replied r) = omega arith
+table-weight n (owner-in e ask-load) = omega arith
+table-weight n (owner-in e ask-store) = omega arith
+table-weight n (owner-in-replied e r) = omega arith
 
-tile-weight : {rel : Relation} {cur : Option Access} {ask : Option Forward} {mark : Bool} {x : Tile} (n : ℕ) → TileOk rel cur ask mark x → tileWeight n x ≤ 2 * n + 3 + extra rel ask
+tile-weight : {ws : Words} {p : Waiting} {rel : Relation} {cur : Option Access} {ask : Option Forward} {mark : Bool} {x : Tile} (n : ℕ) → TileOk ws p rel cur ask mark x → tileWeight n x ≤ 2 * n + 3 + extra rel ask
 unfolding tileWeight
 tile-weight n (ok {g} {r} {d} {f} {w} {a} tb k) =
     omega (arith, join-weight (requestWeight n) g r, join-weight forwardWeight d f, join-weight replyWeight w a, wants-weight n k, table-weight n tb)
@@ -116,7 +116,8 @@ within (asked-owner a) = omega arith
 within (requester ne) = omega arith
 within (bystander ne a) = omega arith
 within (owing e) = omega arith
-within (storer e) = omega arith
+within (storer e (in-mask i)) = omega arith
+within (storer e off-mask) = omega arith
 within (cleared-out e a) = omega arith
 within sees-leaving = omega arith
 
@@ -130,10 +131,10 @@ not-the-asked ne (asked-owner a) = absurd (ne refl)
 not-the-asked ne (requester n) = omega arith
 not-the-asked ne (bystander n a) = omega arith
 
-capped : {S : ℕ → Relation → Option Access → Option Forward → Type 0} {k u : ℕ} {x : Tile} (n e : ℕ) → ((rel : Relation) (cur : Option Access) (ask : Option Forward) → S u rel cur ask → extra rel ask ≤ e) → At k S u x → tileWeight n x ≤ 2 * n + 3 + e
+capped : {ws : Words} {q : ℕ → Waiting} {S : Knowledge} {k u : ℕ} {x : Tile} (n e : ℕ) → ((rel : Relation) (cur : Option Access) (ask : Option Forward) → S u rel cur ask → extra rel ask ≤ e) → At ws q k S u x → tileWeight n x ≤ 2 * n + 3 + e
 capped n e f (at {rel} {cur} {ask} s m o) = omega (arith, tile-weight n o, f rel cur ask s)
 
-module _ (n k : ℕ) (h : Home) (ts : List Tile) (len : length ts ≡ n) (all : All n k (Sees h) ts) where
+module _ (ws : Words) (w : ℕ → Waiting) (n k : ℕ) (h : Home) (ts : List Tile) (len : length ts ≡ n) (all : All ws w n k (Sees h) ts) where
   -- every tile has as much
   weigh : tilesWeight (length ts) ts ≤ n * (2 * n + 3) + n * most h
   weigh =
@@ -164,15 +165,15 @@ clearing-weight clearForEviction = omega arith
 rows : (n : ℕ) → (n + 1) * (2 * n + 3) ≡ n * (2 * n + 3) + (2 * n + 3)
 rows n = add-mul n 1 (2 * n + 3) ∙ ap (λ (x : ℕ). n * (2 * n + 3) + x) (one-mul (2 * n + 3))
 
-pub measure-bound : {n : ℕ} {b : Bench} → 1 ≤ n → Inv n b → measure b ≤ (n + 1) * (2 * n + 3)
+pub measure-bound : {ws : Words} {q : ℕ → Waiting} {n : ℕ} {b : Bench} → 1 ≤ n → Inv ws q n b → measure b ≤ (n + 1) * (2 * n + 3)
 unfolding measure homeWeight queueWeight outWeight backWeight
-measure-bound {n} le (inv {h} {k} {ts} len (idle-ok absent-ok) all) = omega (arith, rows n, weigh n k h ts len all)
-measure-bound {n} le (inv {h} {k} {ts} len (idle-ok uncached-ok) all) = omega (arith, rows n, weigh n k h ts len all)
-measure-bound {n} le (inv {h} {k} {ts} len (idle-ok (shared-ok lm)) all) = omega (arith, rows n, weigh n k h ts len all)
-measure-bound {n} le (inv {h} {k} {ts} len (idle-ok (owned-ok {o} lo)) all) = omega (arith, rows n, weigh-but n k h ts len all o (λ u ne rel cur ask s. not-the-owner ne s))
-measure-bound {n} le (inv {h} {k} {ts} len (load-out lt) all) = omega (arith, rows n, weigh n k h ts len all)
-measure-bound {n} le (inv {h} {k} {ts} len (load-back lt) all) = omega (arith, rows n, weigh n k h ts len all)
-measure-bound {n} le (inv {h} {k} {ts} len (owner-ok {o} {c} lt cok) all) = omega (arith, rows n, cause-weight c, weigh-but n k h ts len all o (λ u ne rel cur ask s. not-the-asked ne s))
-measure-bound {n} le (inv {h} {k} {ts} len (acks-ok {c} lo ne sub cok) all) = omega (arith, rows n, clearing-weight c, weigh n k h ts len all)
-measure-bound {n} le (inv {h} {k} {ts} len store-out all) = omega (arith, rows n, weigh n k h ts len all)
-measure-bound {n} le (inv {h} {k} {ts} len store-back all) = omega (arith, rows n, weigh n k h ts len all)
+measure-bound {ws} {q} {n} le (inv {h} {k} {ts} len (idle-ok (absent-ok me)) all) = omega (arith, rows n, weigh ws q n k h ts len all)
+measure-bound {ws} {q} {n} le (inv {h} {k} {ts} len (idle-ok (uncached-ok cl)) all) = omega (arith, rows n, weigh ws q n k h ts len all)
+measure-bound {ws} {q} {n} le (inv {h} {k} {ts} len (idle-ok (shared-ok cl lm)) all) = omega (arith, rows n, weigh ws q n k h ts len all)
+measure-bound {ws} {q} {n} le (inv {h} {k} {ts} len (idle-ok (owned-ok {o} cl lo)) all) = omega (arith, rows n, weigh-but ws q n k h ts len all o (λ u ne rel cur ask s. not-the-owner ne s))
+measure-bound {ws} {q} {n} le (inv {h} {k} {ts} len (load-out me lt) all) = omega (arith, rows n, weigh ws q n k h ts len all)
+measure-bound {ws} {q} {n} le (inv {h} {k} {ts} len (load-back me lt) all) = omega (arith, rows n, weigh ws q n k h ts len all)
+measure-bound {ws} {q} {n} le (inv {h} {k} {ts} len (owner-ok {o} {c} cl lt cok) all) = omega (arith, rows n, cause-weight c, weigh-but ws q n k h ts len all o (λ u ne rel cur ask s. not-the-asked ne s))
+measure-bound {ws} {q} {n} le (inv {h} {k} {ts} len (acks-ok {c} cl lo ne sub cok) all) = omega (arith, rows n, clearing-weight c, weigh ws q n k h ts len all)
+measure-bound {ws} {q} {n} le (inv {h} {k} {ts} len store-out all) = omega (arith, rows n, weigh ws q n k h ts len all)
+measure-bound {ws} {q} {n} le (inv {h} {k} {ts} len (store-back me) all) = omega (arith, rows n, weigh ws q n k h ts len all)

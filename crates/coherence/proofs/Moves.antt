@@ -10,16 +10,12 @@ use lib.ListN.{length, set, length-set}
 use lib.Seq.{getD-set-same, getD-set-other}
 use Rattle.bits.specs.Mask.{has, add}
 use Rattle.bits.proofs.MaskLaws.{has-add, has-add-other, add-lt}
-use Rattle.protocol.specs.Parts.{Words, Queue, empty, Access, reading, writing, Forward, invFwd, ToMemory, FromMemory, Message, onNoc2, Tile, sharedBy, ownedBy, Line, absent, present, Cause, request, eviction, Clearing, clearForStore, Home, idle, awaitingOwner, awaitingAcks, awaitingStore, Bench, benchOf, Result}
+use Rattle.protocol.specs.Parts.{Words, Queue, empty, Access, reading, writing, Waiting, Forward, invFwd, ToMemory, FromMemory, Message, onNoc2, Tile, sharedBy, ownedBy, Line, absent, present, Cause, request, eviction, Clearing, clearForStore, Home, idle, awaitingOwner, awaitingAcks, awaitingStore, Bench, benchOf, Result}
 use Rattle.protocol.specs.Home.{Move, move, range, among, members, grantShared, grantOwner, ownRight, askedFor, askOwner, invalidateTo, invalidate, leave}
 use Rattle.protocol.specs.Bench.{freshTile, tileAt, push, sendOne, sendTo, send, sent, posted, kindOf}
 use Rattle.protocol.proofs.Tests.{clash, by-test, at-or-not}
-use Rattle.coherence.proofs.Invariant.{Relation, stranger, sharer, owner, Askable, ask-load, ask-store, ask-inv, AsksFor, asks-load, asks-store, asks-eviction, Apart, ApartFrom, Sees, sees-absent, sees-sharer, sees-outsider, sees-owner, sees-unowning, asked-owner, requester, bystander, owing, storer, cleared-out, sees-leaving, absent-ok, shared-ok, owned-ok, CauseOk, ClearingOk, Inside, idle-ok, owner-ok, acks-ok, store-out, At, at, All, Inv, inv, Fine, fine}
+use Rattle.coherence.proofs.Invariant.{Relation, stranger, sharer, owner, Askable, ask-load, ask-store, ask-inv, AsksFor, asks-load, asks-store, asks-eviction, Apart, ApartFrom, Sees, sees-absent, sees-sharer, sees-outsider, sees-owner, sees-unowning, asked-owner, requester, bystander, owing, storer, cleared-out, sees-leaving, InMask, Clean, clean, absent-ok, shared-ok, owned-ok, CauseOk, ClearingOk, Inside, idle-ok, owner-ok, acks-ok, store-out, Knowledge, At, at, All, Inv, inv, Plain, plain-0, plain-3, Fine, fine}
 use Rattle.coherence.proofs.ViewSteps.{GrantFrom, Placed, placed, grant-owner, ShareFrom, grant-shared, ask-tile}
-
--- what is known of each tile
-abbrev pub Knowledge : Type 1
-Knowledge = ℕ → Relation → Option Access → Option Forward → Type 0
 
 -- ---- one tile replaced, all others as before
 
@@ -38,7 +34,7 @@ module _ (ts : List Tile) (t : ℕ) (y : Tile) where
       (omega arith)
 
 -- the same tile under other marks and another description
-pub carry : {k j t : ℕ} {S R : Knowledge} {x : Tile} → has j t ≡ has k t → ((rel : Relation) (cur : Option Access) (ask : Option Forward) → S t rel cur ask → R t rel cur ask) → At k S t x → At j R t x
+pub carry : {ws : Words} {q : ℕ → Waiting} {k j t : ℕ} {S R : Knowledge} {x : Tile} → has j t ≡ has k t → ((rel : Relation) (cur : Option Access) (ask : Option Forward) → S t rel cur ask → R t rel cur ask) → At ws q k S t x → At ws q j R t x
 carry e f (at {rel} {cur} {ask} s m o) = at (f rel cur ask s) (e ∙ m) o
 
 -- exactly this is known
@@ -54,23 +50,23 @@ Alone = Exactly stranger none none
 abbrev pub post : Move → ℕ → ℕ → ℕ → Words → Queue ToMemory → Queue FromMemory → List Tile → Result Bench
 post (move h ms) v l k mem out back ts = posted (kindOf ms) v ms (benchOf h l k mem out back ts)
 
-send-then : {n : ℕ} {P : Tile → Type 0} {m : Forward} (h : Home) (l k : ℕ) (mem : Words) (out : Queue ToMemory) (back : Queue FromMemory) (kd v : ℕ) (ts : List Tile) (all rest : List Message) (r : ℕ)
+send-then : {ws : Words} {q : ℕ → Waiting} {n : ℕ} {P : Tile → Type 0} {m : Forward} (h : Home) (l k : ℕ) (mem : Words) (out : Queue ToMemory) (back : Queue FromMemory) (kd v : ℕ) (ts : List Tile) (all rest : List Message) (r : ℕ)
     → Placed m (tileAt ts r) P
-    → ((y : Tile) → P y → Fine n (sent kd v all (send rest (some (benchOf h l k mem out back (set ts r y))))))
-    → Fine n (sent kd v all (send (onNoc2 r m ∷ rest) (some (benchOf h l k mem out back ts))))
+    → ((y : Tile) → P y → Fine ws q n (sent kd v all (send rest (some (benchOf h l k mem out back (set ts r y))))))
+    → Fine ws q n (sent kd v all (send (onNoc2 r m ∷ rest) (some (benchOf h l k mem out back ts))))
 unfolding send sendTo sendOne
-send-then {n} h l k mem out back kd v ts all rest r (placed {y} e p) f =
+send-then {ws} {q} {n} h l k mem out back kd v ts all rest r (placed {y} e p) f =
     subst
-    (λ (o : Option Tile). Fine n (sent kd v all (send rest (Option·map (λ x. benchOf h l k mem out back (set ts r x)) o))))
+    (λ (o : Option Tile). Fine ws q n (sent kd v all (send rest (Option·map (λ x. benchOf h l k mem out back (set ts r x)) o))))
     (sym e)
     (f y p)
 
-pub send-one : {n : ℕ} {P : Tile → Type 0} {m : Forward} (h : Home) (l k : ℕ) (mem : Words) (out : Queue ToMemory) (back : Queue FromMemory) (kd v : ℕ) (ts : List Tile) (r : ℕ)
+pub send-one : {ws : Words} {q : ℕ → Waiting} {n : ℕ} {P : Tile → Type 0} {m : Forward} (h : Home) (l k : ℕ) (mem : Words) (out : Queue ToMemory) (back : Queue FromMemory) (v : ℕ) (ts : List Tile) (r : ℕ)
     → Placed m (tileAt ts r) P
-    → ((y : Tile) → P y → Inv n (benchOf h l k mem out back (set ts r y)))
-    → Fine n (posted kd v (onNoc2 r m ∷ []) (benchOf h l k mem out back ts))
+    → ((y : Tile) → P y → Inv ws q n (benchOf h l k mem out back (set ts r y)))
+    → Fine ws q n (posted 3 v (onNoc2 r m ∷ []) (benchOf h l k mem out back ts))
 unfolding posted send sent
-send-one {m} h l k mem out back kd v ts r s f = send-then h l k mem out back kd v ts (onNoc2 r m ∷ []) [] r s (λ y p. fine (f y p))
+send-one {m} h l k mem out back v ts r s f = send-then h l k mem out back 3 v ts (onNoc2 r m ∷ []) [] r s (λ y p. fine (plain-3, f y p))
 
 -- ---- what the tiles are before each move
 
@@ -87,11 +83,11 @@ pub data Beside : Cause → ℕ → Relation → Option Access → Option Forwar
   asker : {t : ℕ} {a : Access} → Beside (request t a) t stranger (some a) none
   beside : {t : ℕ} {c : Cause} → Apart c t → Beside c t stranger none none
 
--- the tiles before the invalidations of `owed`
-pub data ToClear (owed : ℕ) : Clearing → ℕ → Relation → Option Access → Option Forward → Type 0 where
-  to-owe : {t : ℕ} {c : Clearing} → has owed t ≡ true → ToClear owed c t sharer none none
-  to-store : {t : ℕ} → has owed t ≡ false → ToClear owed (clearForStore t) t sharer (some writing) none
-  to-pass : {t : ℕ} {c : Clearing} → has owed t ≡ false → ApartFrom c t → ToClear owed c t stranger none none
+-- the tiles before the invalidations of `owed`, of the mask m
+pub data ToClear (m owed : ℕ) : Clearing → ℕ → Relation → Option Access → Option Forward → Type 0 where
+  to-owe : {t : ℕ} {c : Clearing} → has owed t ≡ true → ToClear m owed c t sharer none none
+  to-store : {t : ℕ} {rel : Relation} → has owed t ≡ false → InMask m t rel → ToClear m owed (clearForStore t) t rel (some writing) none
+  to-pass : {t : ℕ} {c : Clearing} → has owed t ≡ false → ApartFrom c t → ToClear m owed c t stranger none none
 
 -- ---- the descriptions after them
 
@@ -121,42 +117,49 @@ asks (request t reading) = asks-load
 asks (request t writing) = asks-store
 asks eviction = asks-eviction
 
-askable : {c : Cause} {f : Forward} → AsksFor c f → Askable owner none (some f)
+askable : {hs : Words} {c : Cause} {f : Forward} → AsksFor c f → Askable (owner hs) none (some f)
 askable asks-load = ask-load
 askable asks-store = ask-store
 askable asks-eviction = ask-store
 
 -- ---- the moves
 
-module _ (n v l k : ℕ) (mem : Words) (ts : List Tile) (len : length ts ≡ n) where
-  pub grantOwner-fine : {a : Access} (d : Bool) (ws : Words) (miss : Bool) (r : ℕ) → r < n → At k (Grantee a) r (tileAt ts r) → ((u : ℕ) → u < n → (r ≡ u → ⊥) → At k Alone u (tileAt ts u))
-      → Fine n (post (grantOwner d ws (ownRight a) miss r) v l k mem empty empty ts)
+-- no message, or some
+pub plain-kind : (ms : List Message) → Plain (kindOf ms)
+unfolding kindOf
+plain-kind [] = plain-0
+plain-kind (m ∷ ms) = plain-3
+
+-- where the home's words are the last written, ws, they are what is granted
+module _ (ws : Words) (q : ℕ → Waiting) (n v l k : ℕ) (mem : Words) (ts : List Tile) (len : length ts ≡ n) where
+  pub grantOwner-fine : {a : Access} (d : Bool) (miss : Bool) (r : ℕ) → Clean ws mem d → r < n → At ws q k (Grantee a) r (tileAt ts r) → ((u : ℕ) → u < n → (r ≡ u → ⊥) → At ws q k Alone u (tileAt ts u))
+      → Fine ws q n (post (grantOwner d ws (ownRight a) miss r) v l k mem empty empty ts)
   unfolding grantOwner kindOf
-  grantOwner-fine d ws miss r lt (at (grantee g) m o) others =
-      send-one (idle (present d ws (ownedBy r))) l k mem empty empty 3 v ts r (grant-owner g o)
-      (λ y p. inv (length-set ts r y ∙ len) (idle-ok (owned-ok lt))
-      (each-tile ts r y (At k (Sees (idle (present d ws (ownedBy r))))) len (λ u lu ne. carry refl (alone-unowning ne) (others u lu ne)) (at sees-owner m p)))
+  grantOwner-fine d miss r cl lt (at (grantee g) m o) others =
+      send-one (idle (present d ws (ownedBy r))) l k mem empty empty v ts r (grant-owner g o)
+      (λ y p. inv (length-set ts r y ∙ len) (idle-ok (owned-ok cl lt))
+      (each-tile ts r y (At ws q k (Sees (idle (present d ws (ownedBy r))))) len (λ u lu ne. carry refl (alone-unowning ne) (others u lu ne)) (at sees-owner m p)))
 
-  pub grantShared-fine : {e : Bool} {us : Words} (d : Bool) (ws : Words) (m r : ℕ) → m < 2 ^ n → r < n → At k Sharee r (tileAt ts r) → ((u : ℕ) → u < n → (r ≡ u → ⊥) → At k (Sees (idle (present e us (sharedBy m)))) u (tileAt ts u))
-      → Fine n (post (grantShared d ws m r) v l k mem empty empty ts)
+  pub grantShared-fine : {e : Bool} {us : Words} (d : Bool) (m r : ℕ) → Clean ws mem d → m < 2 ^ n → r < n → At ws q k Sharee r (tileAt ts r) → ((u : ℕ) → u < n → (r ≡ u → ⊥) → At ws q k (Sees (idle (present e us (sharedBy m)))) u (tileAt ts u))
+      → Fine ws q n (post (grantShared d ws m r) v l k mem empty empty ts)
   unfolding grantShared kindOf
-  grantShared-fine d ws m r lm lt (at (sharee g) e o) others =
-      send-one (idle (present d ws (sharedBy (add m r)))) l k mem empty empty 3 v ts r (grant-shared g o)
-      (λ y p. inv (length-set ts r y ∙ len) (idle-ok (shared-ok (add-lt n m r lm lt)))
-      (each-tile ts r y (At k (Sees (idle (present d ws (sharedBy (add m r)))))) len (λ u lu ne. carry refl (one-more ne) (others u lu ne)) (at (sees-sharer (has-add m r)) e p)))
+  grantShared-fine d m r cl lm lt (at (sharee g) e o) others =
+      send-one (idle (present d ws (sharedBy (add m r)))) l k mem empty empty v ts r (grant-shared g o)
+      (λ y p. inv (length-set ts r y ∙ len) (idle-ok (shared-ok cl (add-lt n m r lm lt)))
+      (each-tile ts r y (At ws q k (Sees (idle (present d ws (sharedBy (add m r)))))) len (λ u lu ne. carry refl (one-more ne) (others u lu ne)) (at (sees-sharer (has-add m r)) e p)))
 
-  pub askOwner-fine : (d : Bool) (ws : Words) (o : ℕ) (c : Cause) → o < n → CauseOk n o c → At k (Exactly owner none none) o (tileAt ts o) → ((u : ℕ) → u < n → (o ≡ u → ⊥) → At k (Beside c) u (tileAt ts u))
-      → Fine n (post (askOwner d ws o c) v l k mem empty empty ts)
+  pub askOwner-fine : (d : Bool) (hs : Words) (o : ℕ) (c : Cause) → Clean hs mem d → o < n → CauseOk n o c → At ws q k (Exactly (owner hs) none none) o (tileAt ts o) → ((u : ℕ) → u < n → (o ≡ u → ⊥) → At ws q k (Beside c) u (tileAt ts u))
+      → Fine ws q n (post (askOwner d hs o c) v l k mem empty empty ts)
   unfolding askOwner kindOf
-  askOwner-fine d ws o c lt cok (at exactly m x) others =
-      send-one (awaitingOwner d ws o c) l k mem empty empty 3 v ts o (ask-tile (askable (asks c)) x)
-      (λ y p. inv (length-set ts o y ∙ len) (owner-ok lt cok)
-      (each-tile ts o y (At k (Sees (awaitingOwner d ws o c))) len (λ u lu ne. carry refl (beside-asked ne) (others u lu ne)) (at (asked-owner (asks c)) m p)))
+  askOwner-fine d hs o c cl lt cok (at exactly m x) others =
+      send-one (awaitingOwner d hs o c) l k mem empty empty v ts o (ask-tile (askable (asks c)) x)
+      (λ y p. inv (length-set ts o y ∙ len) (owner-ok cl lt cok)
+      (each-tile ts o y (At ws q k (Sees (awaitingOwner d hs o c))) len (λ u lu ne. carry refl (beside-asked ne) (others u lu ne)) (at (asked-owner (asks c)) m p)))
 
-  pub leave-fine : (d : Bool) (ws : Words) → All n k Alone ts → Fine n (post (leave d ws) v l k mem empty empty ts)
+  pub leave-fine : (d : Bool) → Clean ws mem d → All ws q n k Alone ts → Fine ws q n (post (leave d ws) v l k mem empty empty ts)
   unfolding leave kindOf posted send sendTo sendOne push sent
-  leave-fine true ws all = fine (inv len store-out (λ u lu. carry refl alone-leaving (all u lu)))
-  leave-fine false ws all = fine (inv len (idle-ok absent-ok) (λ u lu. carry refl alone-absent (all u lu)))
+  leave-fine true cl all = fine (plain-3, inv len store-out (λ u lu. carry refl alone-leaving (all u lu)))
+  leave-fine false (clean e) all = fine (plain-0, inv len (idle-ok (absent-ok (sym e))) (λ u lu. carry refl alone-absent (all u lu)))
 
 -- ---- the invalidations, in rising order
 
@@ -164,45 +167,45 @@ also : {m : Forward} {x : Tile} {P Q : Tile → Type 0} → ((y : Tile) → P y 
 also f (placed {y} e p) = placed e (f y p)
 
 -- a tile that is owed is sent its invalidation, and no other is
-owed-sent : {k owed t m : ℕ} {d : Bool} {ws : Words} {c : Clearing} {x : Tile} → has owed t ≡ true → At k (ToClear owed c) t x → Placed invFwd x (At k (Sees (awaitingAcks d ws m owed c)) t)
-owed-sent h (at (to-owe e) q o) = also (λ y p. at (owing e) q p) (ask-tile ask-inv o)
-owed-sent h (at (to-store e) q o) = clash h e
-owed-sent h (at (to-pass e a) q o) = clash h e
+owed-sent : {ws : Words} {q : ℕ → Waiting} {k owed t m : ℕ} {d : Bool} {us : Words} {c : Clearing} {x : Tile} → has owed t ≡ true → At ws q k (ToClear m owed c) t x → Placed invFwd x (At ws q k (Sees (awaitingAcks d us m owed c)) t)
+owed-sent h (at (to-owe e) i o) = also (λ y p. at (owing e) i p) (ask-tile ask-inv o)
+owed-sent h (at (to-store e z) i o) = clash h e
+owed-sent h (at (to-pass e a) i o) = clash h e
 
-not-owed : {k owed t m : ℕ} {d : Bool} {ws : Words} {c : Clearing} {x : Tile} → has owed t ≡ false → At k (ToClear owed c) t x → At k (Sees (awaitingAcks d ws m owed c)) t x
-not-owed h (at (to-owe e) q o) = clash e h
-not-owed h (at (to-store e) q o) = at (storer e) q o
-not-owed h (at (to-pass e a) q o) = at (cleared-out e a) q o
+not-owed : {ws : Words} {q : ℕ → Waiting} {k owed t m : ℕ} {d : Bool} {us : Words} {c : Clearing} {x : Tile} → has owed t ≡ false → At ws q k (ToClear m owed c) t x → At ws q k (Sees (awaitingAcks d us m owed c)) t x
+not-owed h (at (to-owe e) i o) = clash e h
+not-owed h (at (to-store e z) i o) = at (storer e z) i o
+not-owed h (at (to-pass e a) i o) = at (cleared-out e a) i o
 
-module _ (n v l k : ℕ) (mem : Words) (kd : ℕ) (all : List Message) (d : Bool) (ws : Words) (m owed : ℕ) (c : Clearing) where
+module _ (ws : Words) (q : ℕ → Waiting) (n v l k : ℕ) (mem : Words) (kd : ℕ) (pk : Plain kd) (all : List Message) (d : Bool) (m owed : ℕ) (c : Clearing) where
   -- the tiles below i are done
   abbrev Until : ℕ → ℕ → Tile → Type 0
-  Until i u x = (u < i → At k (Sees (awaitingAcks d ws m owed c)) u x) × (i ≤ u → At k (ToClear owed c) u x)
+  Until i u x = (u < i → At ws q k (Sees (awaitingAcks d ws m owed c)) u x) × (i ≤ u → At ws q k (ToClear m owed c) u x)
 
   send-all : (j i : ℕ) (ts : List Tile) → length ts ≡ n → i + j ≡ n → ((u : ℕ) → u < n → Until i u (tileAt ts u))
-      → ((us : List Tile) → length us ≡ n → All n k (Sees (awaitingAcks d ws m owed c)) us → Inv n (benchOf (awaitingAcks d ws m owed c) l k mem empty empty us))
-      → Fine n (sent kd v all (send (map invalidateTo (among owed (range i j))) (some (benchOf (awaitingAcks d ws m owed c) l k mem empty empty ts))))
+      → ((us : List Tile) → length us ≡ n → All ws q n k (Sees (awaitingAcks d ws m owed c)) us → Inv ws q n (benchOf (awaitingAcks d ws m owed c) l k mem empty empty us))
+      → Fine ws q n (sent kd v all (send (map invalidateTo (among owed (range i j))) (some (benchOf (awaitingAcks d ws m owed c) l k mem empty empty ts))))
   unfolding range among send sent invalidateTo
-  send-all zero i ts len e st end = fine (end ts len (λ u lu. st u lu .0 (omega arith)))
+  send-all zero i ts len e st end = fine (pk, end ts len (λ u lu. st u lu .0 (omega arith)))
   send-all (suc j) i ts len e st end =
       let next = send-all j (suc i) in
-      by-test (λ (us : List ℕ). Fine n (sent kd v all (send (map invalidateTo us) (some (benchOf (awaitingAcks d ws m owed c) l k mem empty empty ts))))) (has owed i) _ _
+      by-test (λ (us : List ℕ). Fine ws q n (sent kd v all (send (map invalidateTo us) (some (benchOf (awaitingAcks d ws m owed c) l k mem empty empty ts))))) (has owed i) _ _
       (λ h. send-then (awaitingAcks d ws m owed c) l k mem empty empty kd v ts all (map invalidateTo (among owed (range (suc i) j))) i
-      (owed-sent {m = m} {d = d} {ws = ws} h (st i (omega arith) .1 (omega arith)))
-      (λ y q. next (set ts i y) (length-set ts i y ∙ len) (omega arith)
+      (owed-sent {m = m} {d = d} {us = ws} h (st i (omega arith) .1 (omega arith)))
+      (λ y z. next (set ts i y) (length-set ts i y ∙ len) (omega arith)
       (each-tile ts i y (Until (suc i)) len
       (λ u lu ne. ((λ a. st u lu .0 (omega arith)), (λ a. st u lu .1 (omega arith))))
-      ((λ a. q), (λ a. absurd (omega arith))))
+      ((λ a. z), (λ a. absurd (omega arith))))
       end))
       (λ h. next ts len (omega arith)
       (λ u lu. (
-        (λ a. at-or-not (λ (z : ℕ). At k (Sees (awaitingAcks d ws m owed c)) z (tileAt ts z)) i u (not-owed h (st i (omega arith) .1 (omega arith))) (λ ne. st u lu .0 (omega arith))),
+        (λ a. at-or-not (λ (z : ℕ). At ws q k (Sees (awaitingAcks d ws m owed c)) z (tileAt ts z)) i u (not-owed h (st i (omega arith) .1 (omega arith))) (λ ne. st u lu .0 (omega arith))),
         (λ a. st u lu .1 (omega arith)),
       ))
       end)
 
-pub invalidate-fine : (n v l k : ℕ) (mem : Words) (ts : List Tile) → length ts ≡ n → (d : Bool) (ws : Words) (m owed : ℕ) (c : Clearing) → owed < 2 ^ n → (owed ≡ 0 → ⊥) → Inside owed m → ClearingOk n owed c → All n k (ToClear owed c) ts
-    → Fine n (post (invalidate n d ws m owed c) v l k mem empty empty ts)
+pub invalidate-fine : (ws : Words) (q : ℕ → Waiting) (n v l k : ℕ) (mem : Words) (ts : List Tile) → length ts ≡ n → (d : Bool) (m owed : ℕ) (c : Clearing) → Clean ws mem d → owed < 2 ^ n → (owed ≡ 0 → ⊥) → Inside owed m → ClearingOk n owed c → All ws q n k (ToClear m owed c) ts
+    → Fine ws q n (post (invalidate n d ws m owed c) v l k mem empty empty ts)
 unfolding invalidate members posted
-invalidate-fine n v l k mem ts len d ws m owed c lo ne sub cok st =
-    send-all n v l k mem _ _ d ws m owed c n 0 ts len (omega arith) (λ u lu. ((λ a. absurd (omega arith)), (λ a. st u lu))) (λ us lus su. inv lus (acks-ok lo ne sub cok) su)
+invalidate-fine ws q n v l k mem ts len d m owed c cl lo ne sub cok st =
+    send-all ws q n v l k mem _ (plain-kind _) _ d m owed c n 0 ts len (omega arith) (λ u lu. ((λ a. absurd (omega arith)), (λ a. st u lu))) (λ us lus su. inv lus (acks-ok cl lo ne sub cok) su)

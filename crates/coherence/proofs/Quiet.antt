@@ -17,7 +17,7 @@ use Rattle.protocol.specs.Home.{Move, move, range, writeBack, loadAckS, loadAck
 use Rattle.protocol.specs.Bench.{freshTile, tileAt, front, rest, send, sent, posted, kindOf, settle, atTile, circle, firstOf, eligible, arbitrate, noc1, popNoc1, served, take, takeFrom, takingOn, noc3, popNoc3, writtenBack, moved, accept, fromTileOn, memoryServes, memoryStepOn, acceptAck, memoryAckOn, step}
 use Rattle.protocol.specs.Demand3.{answer, isAccepted, isMisfit, canBeAccepted, isDelivery, isWaiting, tilesOf, isEmpty, noc2, memoryNext, fromNext, toNext, next, Quiet}
 use Rattle.protocol.specs.Demand3 as demand
-use Rattle.coherence.proofs.Invariant.{Relation, join, resting, loadQueued, storeQueued, sharedGranted, exclusiveGranted, modifiedGranted, not-asked, ask-load, ask-store, ask-inv, stranger-plain, stranger-in, sharer-plain, sharer-replied, owner-plain, owner-replied, owner-shared, owner-out, owner-out-replied, owner-in, owner-in-replied, TileOk, ok, Sees, asked-owner, requester, bystander, owing, storer, cleared-out, HomeOk, idle-ok, load-out, load-back, owner-ok, acks-ok, store-out, store-back, At, at, All, Inv, inv, Fine, fine-refused, fine}
+use Rattle.coherence.proofs.Invariant.{Relation, join, resting, loadQueued, storeQueued, sharedGranted, exclusiveGranted, modifiedGranted, not-asked, ask-load, ask-store, ask-inv, stranger-plain, stranger-in, sharer-plain, sharer-replied, owner-plain, owner-replied, owner-shared, owner-out, owner-out-replied, owner-in, owner-in-replied, TileOk, ok, Sees, asked-owner, requester, bystander, owing, storer, cleared-out, HomeOk, idle-ok, load-out, load-back, owner-ok, acks-ok, store-out, store-back, At, at, All, Inv, inv, Holds, fine-refused, fine}
 use Rattle.protocol.proofs.Tests.{false-true, clash, at-or-not, if-true, everywhere, there}
 use Rattle.protocol.proofs.Search.{first-passes, range-none, circle-none}
 use Rattle.coherence.proofs.Calls.{at-rest, step-fine}
@@ -28,7 +28,7 @@ data Ready : Result Bench → Type 0 where
   misfits : {r : ℕ} → isMisfit (answer r 0 0) ≡ true → Ready (refused r)
   fits : {kd v : ℕ} {b : Bench} {ms : List Message} → Ready (accepted kd v b ms)
 
-ready-accepted : {n : ℕ} {r : Result Bench} → Ready r → Fine n r → isAccepted (demand.answered r) ≡ true
+ready-accepted : {P : ℕ → ℕ → Bench → Type 0} {r : Result Bench} → Ready r → Holds P r → isAccepted (demand.answered r) ≡ true
 unfolding isAccepted demand.answered
 ready-accepted (misfits e) (fine-refused f) = clash e f
 ready-accepted fits (fine i) = refl
@@ -127,23 +127,23 @@ second-there none a e = false-true e
 second-there (some b) a e = false-true e
 
 -- a tile of which something is asked has it on NoC2 or the answer on NoC3
-busy : {A : Type 0} {rel : Relation} {cur : Option Access} {f : Forward} {mark : Bool} {x : Tile} → TileOk rel cur (some f) mark x → isEmpty (noc2 x) ≡ true → isEmpty (noc3 x) ≡ true → A
+busy : {A : Type 0} {ws : Words} {p : Waiting} {rel : Relation} {cur : Option Access} {f : Forward} {mark : Bool} {x : Tile} → TileOk ws p rel cur (some f) mark x → isEmpty (noc2 x) ≡ true → isEmpty (noc3 x) ≡ true → A
 unfolding noc2 noc3 isEmpty
 busy (ok (sharer-plain {d} ask-inv c s) k) e q = second-there d _ e
 busy (ok sharer-replied k) e q = false-true q
 busy (ok (owner-plain {d} ask-load o) k) e q = second-there d _ e
 busy (ok (owner-plain {d} ask-store o) k) e q = second-there d _ e
 busy (ok (owner-replied r) k) e q = false-true q
-busy (ok (owner-shared c) k) e q = false-true q
+busy (ok (owner-shared c h) k) e q = false-true q
 busy (ok (owner-out ask-load) k) e q = false-true q
 busy (ok (owner-out ask-store) k) e q = false-true q
 busy (ok (owner-out-replied r) k) e q = false-true q
-busy (ok (owner-in ask-load) k) e q = false-true e
-busy (ok (owner-in ask-store) k) e q = false-true e
-busy (ok (owner-in-replied r) k) e q = false-true q
+busy (ok (owner-in h ask-load) k) e q = false-true e
+busy (ok (owner-in h ask-store) k) e q = false-true e
+busy (ok (owner-in-replied h r) k) e q = false-true q
 
 -- with nothing on NoC2 and NoC3 a tile of which nothing is asked can be taken, or has nothing on NoC1 and does not wait
-still : {rel : Relation} {mark : Bool} {x : Tile} → TileOk rel none none mark x → isEmpty (noc2 x) ≡ true → isEmpty (noc3 x) ≡ true → eligible mark x ≡ false → (noc1 x ≡ empty) × (isWaiting x ≡ false)
+still : {ws : Words} {p : Waiting} {rel : Relation} {mark : Bool} {x : Tile} → TileOk ws p rel none none mark x → isEmpty (noc2 x) ≡ true → isEmpty (noc3 x) ≡ true → eligible mark x ≡ false → (noc1 x ≡ empty) × (isWaiting x ≡ false)
 unfolding noc1 noc2 noc3 isEmpty isWaiting eligible
 still (ok stranger-plain resting) e q z = (refl, refl)
 still (ok stranger-plain loadQueued) e q z = false-true (sym z)
@@ -167,19 +167,19 @@ still (ok (owner-out not-asked) k) e q z = false-true q
 
 -- ---- the tiles that a home waits for
 
-asked-busy : {A : Type 0} {k o t : ℕ} {d : Bool} {ws : Words} {c : Cause} {x : Tile} → o ≡ t → At k (Sees (awaitingOwner d ws o c)) t x → isEmpty (noc2 x) ≡ true → isEmpty (noc3 x) ≡ true → A
+asked-busy : {A : Type 0} {ws : Words} {q : ℕ → Waiting} {k o t : ℕ} {d : Bool} {us : Words} {c : Cause} {x : Tile} → o ≡ t → At ws q k (Sees (awaitingOwner d us o c)) t x → isEmpty (noc2 x) ≡ true → isEmpty (noc3 x) ≡ true → A
 asked-busy e (at (asked-owner a) m o) = busy o
 asked-busy e (at (requester ne) m o) = absurd (ne e)
 asked-busy e (at (bystander ne a) m o) = absurd (ne e)
 
-owed-busy : {A : Type 0} {k t m owed : ℕ} {d : Bool} {ws : Words} {c : Clearing} {x : Tile} → has owed t ≡ true → At k (Sees (awaitingAcks d ws m owed c)) t x → isEmpty (noc2 x) ≡ true → isEmpty (noc3 x) ≡ true → A
+owed-busy : {A : Type 0} {ws : Words} {q : ℕ → Waiting} {k t m owed : ℕ} {d : Bool} {us : Words} {c : Clearing} {x : Tile} → has owed t ≡ true → At ws q k (Sees (awaitingAcks d us m owed c)) t x → isEmpty (noc2 x) ≡ true → isEmpty (noc3 x) ≡ true → A
 owed-busy h (at (owing e) m o) = busy o
-owed-busy h (at (storer e) m o) = clash h e
+owed-busy h (at (storer e i) m o) = clash h e
 owed-busy h (at (cleared-out e a) m o) = clash h e
 
 -- ---- the bench
 
-module _ (n : ℕ) (h : Home) (l k : ℕ) (mem : Words) (out : Queue ToMemory) (back : Queue FromMemory) (ts : List Tile) (i : Inv n (benchOf h l k mem out back ts)) where
+module _ (ws : Words) (q : ℕ → Waiting) (n : ℕ) (h : Home) (l k : ℕ) (mem : Words) (out : Queue ToMemory) (back : Queue FromMemory) (ts : List Tile) (i : Inv ws q n (benchOf h l k mem out back ts)) where
   to-accepted : (t : ℕ) → not (isEmpty (noc2 (tileAt ts t))) ≡ true → canBeAccepted (toTile t) (benchOf h l k mem out back ts) ≡ true
   unfolding canBeAccepted step atTile isEmpty noc2
   to-accepted t e =
@@ -193,16 +193,16 @@ module _ (n : ℕ) (h : Home) (l k : ℕ) (mem : Words) (out : Queue ToMemory) (
       ready-accepted (if-true Ready _ _ (lt-ltb t (length ts) lt) (front-ready t (noc3 (tileAt ts t)) h l k mem out back (set ts t (popNoc3 (tileAt ts t))) (not-true _ e))) (step-fine (fromTile t) i)
 
 -- what `next` can do where messages are under way to or from memory
-step-accepted : {n l k : ℕ} {h : Home} {mem : Words} {m : ToMemory} {back : Queue FromMemory} {ts : List Tile} → Inv n (benchOf h l k mem (one m) back ts) → canBeAccepted memoryStep (benchOf h l k mem (one m) back ts) ≡ true
+step-accepted : {ws : Words} {q : ℕ → Waiting} {n l k : ℕ} {h : Home} {mem : Words} {m : ToMemory} {back : Queue FromMemory} {ts : List Tile} → Inv ws q n (benchOf h l k mem (one m) back ts) → canBeAccepted memoryStep (benchOf h l k mem (one m) back ts) ≡ true
 unfolding canBeAccepted step memoryStepOn memoryServes front
 step-accepted {m = loadMem} i = ready-accepted (posted-ready 3 0 _ _) (step-fine memoryStep i)
 step-accepted {m = storeMem ws} i = ready-accepted (posted-ready 3 0 _ _) (step-fine memoryStep i)
 
-ack-accepted : {n l k : ℕ} {h : Home} {mem : Words} {m : FromMemory} {out : Queue ToMemory} {ts : List Tile} → Inv n (benchOf h l k mem out (one m) ts) → canBeAccepted memoryAck (benchOf h l k mem out (one m) ts) ≡ true
+ack-accepted : {ws : Words} {q : ℕ → Waiting} {n l k : ℕ} {h : Home} {mem : Words} {m : FromMemory} {out : Queue ToMemory} {ts : List Tile} → Inv ws q n (benchOf h l k mem out (one m) ts) → canBeAccepted memoryAck (benchOf h l k mem out (one m) ts) ≡ true
 unfolding canBeAccepted step memoryAckOn acceptAck front rest
 ack-accepted {l} {k} {h} {mem} {m} {out} {ts} i = ready-accepted (moved-ready (acknowledged m h) l k mem out empty ts) (step-fine memoryAck i)
 
-taking-accepted : {n l k : ℕ} {x : Line} {mem : Words} {ts : List Tile} (t : ℕ) → Inv n (benchOf (idle x) l k mem empty empty ts) → arbitrate l k ts ≡ some t → canBeAccepted taking (benchOf (idle x) l k mem empty empty ts) ≡ true
+taking-accepted : {ws : Words} {q : ℕ → Waiting} {n l k : ℕ} {x : Line} {mem : Words} {ts : List Tile} (t : ℕ) → Inv ws q n (benchOf (idle x) l k mem empty empty ts) → arbitrate l k ts ≡ some t → canBeAccepted taking (benchOf (idle x) l k mem empty empty ts) ≡ true
 unfolding canBeAccepted step takingOn takeFrom arbitrate
 taking-accepted {l} {k} {x} {mem} {ts} t i e =
     ready-accepted
@@ -229,16 +229,16 @@ Settled b = Quiet b × ((t : ℕ) → isWaiting (tileAt (tilesOf b) t) ≡ false
 abbrev Nowhere : List Tile → Type 0
 Nowhere ts = (t : ℕ) → t < length ts → (isEmpty (noc2 (tileAt ts t)) ≡ true) × (isEmpty (noc3 (tileAt ts t)) ≡ true)
 
-idle-settled : {n l k : ℕ} {x : Line} {mem : Words} {ts : List Tile} → Inv n (benchOf (idle x) l k mem empty empty ts) → length ts ≡ n → All n k (Sees (idle x)) ts → Nowhere ts
+idle-settled : {ws : Words} {q : ℕ → Waiting} {n l k : ℕ} {x : Line} {mem : Words} {ts : List Tile} → Inv ws q n (benchOf (idle x) l k mem empty empty ts) → length ts ≡ n → All ws q n k (Sees (idle x)) ts → Nowhere ts
     → canBeAccepted taking (benchOf (idle x) l k mem empty empty ts) ≡ false → Settled (benchOf (idle x) l k mem empty empty ts)
 unfolding arbitrate tilesOf
-idle-settled {n} {l} {k} {x} {mem} {ts} i len all none-under-way refusal = go (arbitrate l k ts) refl
+idle-settled {ws} {q} {n} {l} {k} {x} {mem} {ts} i len all none-under-way refusal = go (arbitrate l k ts) refl
   where
-    each : firstOf (λ t. eligible (has k t) (tileAt ts t)) (circle l (length ts)) ≡ none → (t : ℕ) → t < length ts → At k (Sees (idle x)) t (tileAt ts t) → Idle (tileAt ts t)
+    each : firstOf (λ t. eligible (has k t) (tileAt ts t)) (circle l (length ts)) ≡ none → (t : ℕ) → t < length ts → At ws q k (Sees (idle x)) t (tileAt ts t) → Idle (tileAt ts t)
     each e t lt (at s m o) =
-        let q = none-under-way t lt in
-        let z = still (at-rest s o .1) (q .0) (q .1) (subst (λ (b : Bool). eligible b (tileAt ts t) ≡ false) m (circle-none (λ u. eligible (has k u) (tileAt ts u)) l (length ts) t e lt)) in
-        record { on1 = z .0; on2 = empty-queue _ (q .0); on3 = empty-queue _ (q .1); waits = z .1 }
+        let y = none-under-way t lt in
+        let z = still (at-rest s o .1) (y .0) (y .1) (subst (λ (b : Bool). eligible b (tileAt ts t) ≡ false) m (circle-none (λ u. eligible (has k u) (tileAt ts u)) l (length ts) t e lt)) in
+        record { on1 = z .0; on2 = empty-queue _ (y .0); on3 = empty-queue _ (y .1); waits = z .1 }
 
     go : (o : Option ℕ) → arbitrate l k ts ≡ o → Settled (benchOf (idle x) l k mem empty empty ts)
     go (some t) e = clash (taking-accepted t i e) refusal
@@ -247,33 +247,33 @@ idle-settled {n} {l} {k} {x} {mem} {ts} i len all none-under-way refusal = go (a
         (record { idle-home = (x, l, k, mem, ts, refl); empty-noc1 = λ t. f t .on1; empty-noc2 = λ t. f t .on2; empty-noc3 = λ t. f t .on3 }, λ t. f t .waits)
 
 -- with nothing under way at the tiles, it is the home's turn
-home-settled : {n : ℕ} {h : Home} {l k : ℕ} {mem : Words} {out : Queue ToMemory} {back : Queue FromMemory} {ts : List Tile} → Inv n (benchOf h l k mem out back ts) → length ts ≡ n → HomeOk n h out back → All n k (Sees h) ts → Nowhere ts
+home-settled : {ws : Words} {q : ℕ → Waiting} {n : ℕ} {h : Home} {l k : ℕ} {mem : Words} {out : Queue ToMemory} {back : Queue FromMemory} {ts : List Tile} → Inv ws q n (benchOf h l k mem out back ts) → length ts ≡ n → HomeOk n mem ws h out back → All ws q n k (Sees h) ts → Nowhere ts
     → canBeAccepted (memoryNext (isEmpty out) (isEmpty back)) (benchOf h l k mem out back ts) ≡ false → Settled (benchOf h l k mem out back ts)
 unfolding memoryNext isEmpty
 home-settled i len (idle-ok x) all w e = idle-settled i len all w e
-home-settled i len (load-out lt) all w e = clash (step-accepted i) e
-home-settled i len (load-back lt) all w e = clash (ack-accepted i) e
-home-settled i len (owner-ok {o} lt c) all w e = let q = w o (omega arith) in asked-busy refl (all o lt) (q .0) (q .1)
-home-settled {n} i len (acks-ok {owed} lo ne sub c) all w e =
+home-settled i len (load-out me lt) all w e = clash (step-accepted i) e
+home-settled i len (load-back me lt) all w e = clash (ack-accepted i) e
+home-settled i len (owner-ok {o} cl lt c) all w e = let q = w o (omega arith) in asked-busy refl (all o lt) (q .0) (q .1)
+home-settled {n} i len (acks-ok {owed} cl lo ne sub c) all w e =
     let z = member n owed lo ne in
     let q = w (z .0) (subst (λ (j : ℕ). z .0 < j) (sym len) (z .1)) in
     owed-busy (z .2) (all (z .0) (z .1)) (q .0) (q .1)
 home-settled i len store-out all w e = clash (step-accepted i) e
-home-settled i len store-back all w e = clash (ack-accepted i) e
+home-settled i len (store-back me) all w e = clash (ack-accepted i) e
 
-pub settled : {n : ℕ} {b : Bench} → Inv n b → canBeAccepted (next b) b ≡ false → Settled b
+pub settled : {ws : Words} {q : ℕ → Waiting} {n : ℕ} {b : Bench} → Inv ws q n b → canBeAccepted (next b) b ≡ false → Settled b
 unfolding next toNext fromNext
-settled {n} (inv {h} {l} {k} {mem} {out} {back} {ts} len hok all) refusal =
+settled {ws} {q = f} {n} (inv {h} {l} {k} {mem} {out} {back} {ts} len hok all) refusal =
     go (firstOf (λ t. not (isEmpty (noc2 (tileAt ts t)))) (range 0 (length ts))) refl (firstOf (λ t. not (isEmpty (noc3 (tileAt ts t)))) (range 0 (length ts))) refl refusal
   where
-    i : Inv n (benchOf h l k mem out back ts)
+    i : Inv ws f n (benchOf h l k mem out back ts)
     i = inv len hok all
 
     go : (o : Option ℕ) → firstOf (λ t. not (isEmpty (noc2 (tileAt ts t)))) (range 0 (length ts)) ≡ o
         → (p : Option ℕ) → firstOf (λ t. not (isEmpty (noc3 (tileAt ts t)))) (range 0 (length ts)) ≡ p
         → canBeAccepted (toNext o p (isEmpty out) (isEmpty back)) (benchOf h l k mem out back ts) ≡ false → Settled (benchOf h l k mem out back ts)
-    go (some t) e p q z = clash (to-accepted n h l k mem out back ts i t (first-passes (λ u. not (isEmpty (noc2 (tileAt ts u)))) _ t e)) z
-    go none e (some t) q z = clash (from-accepted n h l k mem out back ts i t (first-passes (λ u. not (isEmpty (noc3 (tileAt ts u)))) _ t q)) z
+    go (some t) e p q z = clash (to-accepted ws f n h l k mem out back ts i t (first-passes (λ u. not (isEmpty (noc2 (tileAt ts u)))) _ t e)) z
+    go none e (some t) q z = clash (from-accepted ws f n h l k mem out back ts i t (first-passes (λ u. not (isEmpty (noc3 (tileAt ts u)))) _ t q)) z
     go none e none q z =
         home-settled i len hok all
         (λ t lt. (
