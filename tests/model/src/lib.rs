@@ -11,6 +11,7 @@ pub mod job;
 pub mod messages;
 pub mod program;
 pub mod random;
+pub mod samples;
 pub mod steps;
 pub mod text;
 pub mod words;

@@ -38,7 +38,7 @@ pub fn fields(sent: &Sent, line: u64) -> Fields {
     };
     match m.kind {
         LOAD_REQ | STORE_REQ => {
-            f.address = line.wrapping_add(8 * m.word);
+            f.address = line.saturating_add(8 * m.word);
             f.size = 4;
         }
         WB_REQ | LOAD_MEM | STORE_MEM => {

@@ -196,6 +196,21 @@ fn word(n: u64) -> String {
     }
 }
 
+/// The line of a call.
+pub fn call_line(call: Call) -> String {
+    match call {
+        Call::Load { tile, word } => format!("load {tile} {word}"),
+        Call::Store { tile, word: place, value } => format!("store {tile} {place} {}", word(value)),
+        Call::Evict { tile } => format!("evict {tile}"),
+        Call::Arbitrate => "taking".into(),
+        Call::ToTile { tile } => format!("to-tile {tile}"),
+        Call::FromTile { tile } => format!("from-tile {tile}"),
+        Call::MemoryStep => "memory-step".into(),
+        Call::MemoryAck => "memory-ack".into(),
+        Call::HomeEviction => "home-eviction".into(),
+    }
+}
+
 /// The text of a job, or the job's refusal.
 pub fn from_job(bytes: &[u8]) -> Result<String, Refused> {
     let job = job::check(bytes)?;
@@ -204,18 +219,7 @@ pub fn from_job(bytes: &[u8]) -> Result<String, Refused> {
     writeln!(out, "line 0x{:X}", job.line).unwrap();
     writeln!(out, "memory {}", job.memory.map(word).join(" ")).unwrap();
     for &call in &job.calls {
-        match call {
-            Call::Load { tile, word } => writeln!(out, "load {tile} {word}"),
-            Call::Store { tile, word: place, value } => writeln!(out, "store {tile} {place} {}", word(value)),
-            Call::Evict { tile } => writeln!(out, "evict {tile}"),
-            Call::Arbitrate => writeln!(out, "taking"),
-            Call::ToTile { tile } => writeln!(out, "to-tile {tile}"),
-            Call::FromTile { tile } => writeln!(out, "from-tile {tile}"),
-            Call::MemoryStep => writeln!(out, "memory-step"),
-            Call::MemoryAck => writeln!(out, "memory-ack"),
-            Call::HomeEviction => writeln!(out, "home-eviction"),
-        }
-        .unwrap();
+        writeln!(out, "{}", call_line(call)).unwrap();
     }
     Ok(out)
 }

@@ -181,16 +181,20 @@ pub fn told(answer: Answer, sent: &[Sent]) -> Told {
 
 /// One call on lent words. A refusal changes no word, and the words behind the bench stay.
 pub fn call(words: &mut [u64], call: Call) -> Told {
+    call_sending(words, call, &mut vec![])
+}
+
+/// The same, with the messages that it sends, appended to `sent`, which is empty before it.
+pub fn call_sending(words: &mut [u64], call: Call, sent: &mut Vec<Sent>) -> Told {
     let mut bench = match decode(words) {
         Ok(bench) => bench,
         Err(number) => return refused(number),
     };
-    let mut sent = vec![];
-    let answer = bench.call(call, &mut sent);
+    let answer = bench.call(call, sent);
     if answer.refusal == 0 {
         put(words, &bench);
     }
-    told(answer, &sent)
+    told(answer, sent)
 }
 
 /// A start on lent words: 2, then the number of words for 1.

@@ -2,30 +2,11 @@
 
 use model::bench::*;
 use model::flits::*;
+use model::samples::{all_calls, full, plain, queue, state, DATA};
 use model::steps::*;
-
-const DATA: [u64; 8] = [11, 12, 13, 14, 15, 16, 17, 18];
 
 fn fresh(tiles: u64) -> Bench {
     Bench::start(tiles, [1, 2, 3, 4, 5, 6, 7, 8]).unwrap()
-}
-
-fn plain(kind: u64) -> Message {
-    Message { kind, ..Message::default() }
-}
-
-fn full(kind: u64) -> Message {
-    Message { has_data: 1, data: DATA, ..plain(kind) }
-}
-
-fn state(state: u64, m: Message) -> Message {
-    Message { state, ..m }
-}
-
-fn queue(messages: &[Message]) -> Queue {
-    let mut q = Queue::default();
-    messages.iter().for_each(|&m| q.push(m));
-    q
 }
 
 /// Three tiles: 0 in M, 1 in E, 2 in I, home with a line in directory E. Not reachable, but well formed.
@@ -58,20 +39,6 @@ fn judge(well: bool, base: fn() -> Bench, change: impl FnOnce(&mut Bench)) {
             assert!(b == before && sent.is_empty());
         }
     }
-}
-
-fn all_calls(tile: u64, word: u64) -> [Call; 9] {
-    [
-        Call::Load { tile, word },
-        Call::Store { tile, word, value: 5 },
-        Call::Evict { tile },
-        Call::Arbitrate,
-        Call::ToTile { tile },
-        Call::FromTile { tile },
-        Call::MemoryStep,
-        Call::MemoryAck,
-        Call::HomeEviction,
-    ]
 }
 
 #[test]

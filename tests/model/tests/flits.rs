@@ -2,62 +2,7 @@
 
 use model::flits::{self, *};
 use model::random::Random;
-
-const KINDS: [u64; 16] = [2, 12, 13, 16, 17, 18, 19, 20, 21, 22, 23, 24, 25, 28, 29, 31];
-
-fn three_headers(kind: u64) -> bool {
-    matches!(kind, 2 | 12 | 13 | 16..=20 | 31)
-}
-
-/// A message of the type that is accepted, with random fields, and its number of data words.
-fn good(kind: u64, r: &mut Random) -> (Fields, usize) {
-    let port = |r: &mut Random| [0, 2, 3, 4, 5][r.below(5) as usize];
-    let mut f = Fields {
-        chip: r.below(1 << 14),
-        x: r.below(256),
-        y: r.below(256),
-        port: port(r),
-        kind,
-        tag: r.below(256),
-        ..Fields::default()
-    };
-    if three_headers(kind) {
-        f.source_chip = r.below(1 << 14);
-        f.source_x = r.below(256);
-        f.source_y = r.below(256);
-        f.source_port = port(r);
-        f.address = r.below(1 << 48);
-        if kind != 31 && kind != 2 {
-            f.address &= !63;
-        }
-    }
-    let count = match kind {
-        12 | 20 | 24 | 29 => 8,
-        21 | 22 => 8 * r.below(2) as usize,
-        _ => 0,
-    };
-    match kind {
-        31 => {
-            f.size = r.below(8);
-            f.icache = r.below(2);
-        }
-        2 => f.size = r.below(8),
-        12 | 19 | 20 => f.size = 7,
-        16..=18 => f.vector = 15,
-        21 => {
-            f.last = 1;
-            f.state = if count == 8 { S } else { r.below(2) };
-        }
-        22 | 23 => f.last = 1,
-        28 | 29 => {
-            f.state = if kind == 28 { r.below(4) } else { 1 + r.below(3) };
-            f.miss = r.below(2);
-            f.address_5_4 = r.below(4);
-        }
-        _ => {}
-    }
-    (f, count)
-}
+use model::samples::{any_fields, three_headers, TYPES};
 
 fn written(f: &Fields, data: &[u64]) -> Vec<u64> {
     let mut buffer = [0; 11];
@@ -69,8 +14,8 @@ fn written(f: &Fields, data: &[u64]) -> Vec<u64> {
 fn what_is_written_reads_back() {
     let mut r = Random(1);
     for _ in 0..20_000 {
-        for kind in KINDS {
-            let (f, count) = good(kind, &mut r);
+        for kind in TYPES {
+            let (f, count) = any_fields(kind, &mut r);
             let data: Vec<u64> = (0..count).map(|_| r.next()).collect();
             let room = r.below(14) as usize;
             let place = r.below(16);
@@ -112,8 +57,8 @@ fn what_is_read_writes_back() {
     let mut r = Random(2);
     let mut accepted = 0;
     for _ in 0..60_000 {
-        for kind in KINDS {
-            let (f, count) = good(kind, &mut r);
+        for kind in TYPES {
+            let (f, count) = any_fields(kind, &mut r);
             let data: Vec<u64> = (0..count).map(|_| r.next()).collect();
             let mut m = written(&f, &data);
             for _ in 0..r.below(3) {
@@ -211,8 +156,8 @@ fn second_flits() {
 #[test]
 fn ports_and_reserved_bits_and_their_ties() {
     let mut r = Random(3);
-    for kind in KINDS {
-        let (f, count) = good(kind, &mut r);
+    for kind in TYPES {
+        let (f, count) = any_fields(kind, &mut r);
         let data = vec![r.next(); count];
         let m = written(&f, &data);
         for port in 0..16u64 {
@@ -251,8 +196,8 @@ fn ports_and_reserved_bits_and_their_ties() {
 #[test]
 fn writing_refuses_in_order() {
     let mut r = Random(4);
-    for kind in KINDS {
-        let (f, count) = good(kind, &mut r);
+    for kind in TYPES {
+        let (f, count) = any_fields(kind, &mut r);
         let data = vec![r.next(); count];
         let mut buffer = [9; 11];
         let mut answer = |f: &Fields, data: &[u64], place| {

@@ -3,29 +3,15 @@
 use model::bench::*;
 use model::flits::*;
 use model::random::Random;
+use model::samples::{all_calls, full, plain, queue, DATA};
 use model::steps::*;
 use model::words::{call, decode, encode, need, start, tile_place, Told};
 
-const DATA: [u64; 8] = [11, 12, 13, 14, 15, 16, 17, 18];
 const MAX: u64 = u64::MAX;
 
 /// Numbers at the ends of every range that 01 names, and all types.
 fn numbers() -> Vec<u64> {
     (0..34).chain([63, 64, 65, 1 << 32, 1 << 63, MAX]).collect()
-}
-
-fn all_calls(tile: u64, word: u64) -> [Call; 9] {
-    [
-        Call::Load { tile, word },
-        Call::Store { tile, word, value: 5 },
-        Call::Evict { tile },
-        Call::Arbitrate,
-        Call::ToTile { tile },
-        Call::FromTile { tile },
-        Call::MemoryStep,
-        Call::MemoryAck,
-        Call::HomeEviction,
-    ]
 }
 
 /// What a place of a bench may hold: any of the numbers, or these.
@@ -95,34 +81,22 @@ fn a_fresh_bench() {
     });
 }
 
-fn plain(kind: u64) -> Message {
-    Message { kind, ..Message::default() }
-}
-
-fn full(kind: u64) -> Message {
-    Message { has_data: 1, data: DATA, ..plain(kind) }
-}
-
-fn two(a: Message, b: Message) -> Queue {
-    Queue { count: 2, slots: [a, b] }
-}
-
 /// One tile, every place in use: M, a waiting store, every queue full, the home waiting for invalidations.
 fn busy() -> Bench {
     let mut b = Bench::start(1, DATA).unwrap();
     b.home = Home { valid: 1, dirty: 1, words: DATA, directory: S, sharers: 1, marks: 1, ..b.home };
     b.home = Home { phase: FOR_INVALIDATIONS, reason: FOR_STORE, owed: 1, ..b.home };
-    b.to_memory = two(full(STORE_MEM), plain(LOAD_MEM));
-    b.from_memory = two(full(LOAD_MEM_ACK), plain(STORE_MEM_ACK));
+    b.to_memory = queue(&[full(STORE_MEM), plain(LOAD_MEM)]);
+    b.from_memory = queue(&[full(LOAD_MEM_ACK), plain(STORE_MEM_ACK)]);
     b.tiles[0] = Tile {
         state: M,
         wait: WAIT_STORE,
         wait_word: 7,
         wait_value: MAX,
         words: DATA,
-        noc1: two(Message { word: 7, ..plain(LOAD_REQ) }, plain(WBGUARD_REQ)),
-        noc2: two(Message { state: E, miss: 1, ..full(DATA_ACK) }, plain(INV_FWD)),
-        noc3: two(Message { state: S, ..full(LOAD_FWDACK) }, full(STORE_FWDACK)),
+        noc1: queue(&[Message { word: 7, ..plain(LOAD_REQ) }, plain(WBGUARD_REQ)]),
+        noc2: queue(&[Message { state: E, miss: 1, ..full(DATA_ACK) }, plain(INV_FWD)]),
+        noc3: queue(&[Message { state: S, ..full(LOAD_FWDACK) }, full(STORE_FWDACK)]),
     };
     b
 }

@@ -5,6 +5,7 @@ use model::bench::*;
 use model::flits::*;
 use model::job;
 use model::random::Random;
+use model::samples::{all_calls, plain, state};
 use model::steps::*;
 use model::words::{self, decode, encode, need, tile_place, Told};
 use std::fmt::Write;
@@ -148,34 +149,12 @@ fn numbers(call: Call) -> (u8, [u64; 3]) {
     }
 }
 
-fn all_calls(tile: u64, word: u64) -> [Call; 9] {
-    [
-        Call::Load { tile, word },
-        Call::Store { tile, word, value: 5 },
-        Call::Evict { tile },
-        Call::Arbitrate,
-        Call::ToTile { tile },
-        Call::FromTile { tile },
-        Call::MemoryStep,
-        Call::MemoryAck,
-        Call::HomeEviction,
-    ]
-}
-
 fn fresh(tiles: u64) -> Bench {
     Bench::start(tiles, MEMORY).unwrap()
 }
 
-fn plain(kind: u64) -> Message {
-    Message { kind, ..Message::default() }
-}
-
 fn full(kind: u64) -> Message {
     Message { has_data: 1, data: DATA, ..plain(kind) }
-}
-
-fn state(state: u64, m: Message) -> Message {
-    Message { state, ..m }
 }
 
 fn one(m: Message) -> Queue {
