@@ -43,18 +43,20 @@ pub ne-left : (a b : ℕ) → (a ≡ b → ⊥) → eqb b a ≡ false
 ne-left a b h = ne-eqb b a (λ e. h (sym e))
 
 -- numbers or-ed are 0 exactly if each is 0
+pub or-none : (a b : ℕ) → bitOr a b ≡ 0 → (a ≡ 0) × (b ≡ 0)
+or-none a b z =
+    let s = or-add-and a b in
+    let u = and-le-l a b in
+    let v = and-le-r a b in
+    (omega arith, omega arith)
+
 pub or-clear : (a b : ℕ) → eqb (bitOr a b) 0 ≡ (eqb a 0 && eqb b 0)
 or-clear a b = go (eqb (bitOr a b) 0) refl
   where
     go : (e : Bool) → eqb (bitOr a b) 0 ≡ e → e ≡ (eqb a 0 && eqb b 0)
     go true p =
-        let s = or-add-and a b in
-        let u = and-le-l a b in
-        let v = and-le-r a b in
-        let z : bitOr a b ≡ 0 = eqb-true (bitOr a b) 0 p in
-        let x : a ≡ 0 = omega arith in
-        let y : b ≡ 0 = omega arith in
-        sym (rw (x, y))
+        let q = or-none a b (eqb-true (bitOr a b) 0 p) in
+        sym (rw (q .0, q .1))
     go false p = other (eqb a 0) refl (eqb b 0) refl
       where
         other : (s : Bool) → eqb a 0 ≡ s → (t : Bool) → eqb b 0 ≡ t → false ≡ (s && t)

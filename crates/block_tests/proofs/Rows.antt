@@ -1,17 +1,21 @@
 -- The tests of acks, of a tile's head and of the home's block are those by encoding anew. Assumes nothing.
-use Prim.Native.Nat.{ℕ, _%_, _^_}
-use mathlib.Core.Path.{_≡_, refl, ap, sym, _∙_}
+use Prim.Native.Nat.{ℕ, _+_, _%_, _^_}
+use mathlib.Core.Path.{_≡_, refl, ap, sym}
 use mathlib.Core.Bool.{Bool, cond, true, false, _&&_}
+use mathlib.Core.List.{List}
 use lib.Dec.{eqb}
+use lib.ListN.{getD}
+use lib.Bits.{bitOr}
 use borrow.Author.Tests.{eq-eqb}
 use Rattle.words.specs.declared.Row.{Row}
 use Rattle.words.specs.declared.HomeBlock.{HomeBlock}
+use Rattle.words.specs.Blocks.{rowAt, pairAt}
 use Rattle.protocol.specs.Parts.{Home}
 use Rattle.codec.specs.Encode.{row, encReply, encHead, stateNumber, cacheWords, waitingNumber, waitingWord, waitingValue, phaseNumber, requester, owedTiles, encLine, lineOf}
 use Rattle.codec.specs.Decode.{decReply, ackData, decCache, decWaiting, decHome}
 use Rattle.codec.specs.Same.{same, sameRow, samePair, canonQueue, canonControl, homeOk}
-use Rattle.block_tests.specs.Parts.{clearBehind, bare, ackDataOk, loadAckOk, storeAckOk, cacheOk, waitingOk, heldOk, phaseOk}
-use Rattle.block_tests.proofs.Laws.{and-true, and-false, and-assoc, zero-left, one-left, same-self}
+use Rattle.block_tests.specs.Parts.{noneAt, queuesOk, clearBehind, bare, ackDataOk, loadAckOk, storeAckOk, cacheOk, waitingOk, heldOk, phaseOk}
+use Rattle.block_tests.proofs.Laws.{or-none, and-true, and-false, and-assoc, zero-left, one-left, same-self}
 
 pub load-ack : (r : Row) → r .n0 ≡ 21 → loadAckOk r ≡ sameRow (encReply (decReply r)) r
 unfolding loadAckOk ackDataOk bare clearBehind sameRow encReply decReply ackData
@@ -64,3 +68,15 @@ home x =
     let h : Home = decHome (x .tiles) (x .phase) (x .line) (x .control .n2) (x .control .n3) in
     rw (same-self (x .control .words)) (order-home (eqb (phaseNumber h) (x .phase)) (eqb (requester h) (x .control .n2)) (eqb (owedTiles h) (x .control .n3)) (sameRow (encLine (lineOf h)) (x .line)) (eqb (x .control .n0 % x .tiles) (x .control .n0))
     (eqb (x .control .n1 % 2 ^ x .tiles) (x .control .n1)) (samePair (canonQueue 4 (x .out)) (x .out) && samePair (canonQueue 5 (x .back)) (x .back)))
+
+-- three queues whose first types are or-ed to 0
+queue-none : (way : ℕ) (l : List ℕ) (i : ℕ) → getD l i 0 ≡ 0 → noneAt l i ≡ samePair (canonQueue way (pairAt l i)) (pairAt l i)
+unfolding noneAt samePair canonQueue pairAt rowAt
+queue-none way l i h = simp (h)
+
+pub queues-none : (l : List ℕ) (i : ℕ) → bitOr (bitOr (getD l i 0) (getD l (i + 24) 0)) (getD l (i + 48) 0) ≡ 0 → (noneAt l i && (noneAt l (i + 24) && noneAt l (i + 48))) ≡ queuesOk l i
+unfolding queuesOk
+queues-none l i h =
+    let p = or-none (bitOr (getD l i 0) (getD l (i + 24) 0)) (getD l (i + 48) 0) h in
+    let q = or-none (getD l i 0) (getD l (i + 24) 0) (p .0) in
+    rw (queue-none 1 l i (q .0), queue-none 2 l (i + 24) (q .1), queue-none 3 l (i + 48) (p .1))

@@ -1,11 +1,23 @@
 -- Parts of the tests of a block, as the code has them. Devices of the proof: no contract of another crate rests on them alone.
-use Prim.Native.Nat.{ℕ, _%_, _^_}
+use Prim.Native.Nat.{ℕ, _+_, _%_, _^_}
 use mathlib.Core.Bool.{Bool, true, false, cond, _&&_}
+use mathlib.Core.List.{List}
 use lib.Dec.{eqb}
 use Rattle.words.specs.declared.Row.{Row}
-use Rattle.codec.specs.Encode.{zeros, flag, stateNumber, cacheWords, waitingNumber, waitingWord, waitingValue, encLine, lineOf, phaseNumber, requester, owedTiles}
+use Rattle.words.specs.Blocks.{rowAt, pairAt}
+use Rattle.codec.specs.Encode.{zeros, noRow, flag, stateNumber, cacheWords, waitingNumber, waitingWord, waitingValue, encLine, lineOf, phaseNumber, requester, owedTiles}
 use Rattle.codec.specs.Decode.{isSet, decCache, decWaiting, decHome}
-use Rattle.codec.specs.Same.{same, sameRow}
+use Rattle.codec.specs.Same.{same, sameRow, samePair, canonQueue}
+
+-- an empty queue
+unfoldable pub noneAt : List ℕ → ℕ → Bool
+noneAt l i = sameRow noRow (rowAt l i) && sameRow noRow (rowAt l (i + 12))
+
+-- the three queues of a tile
+unfoldable pub queuesOk : List ℕ → ℕ → Bool
+queuesOk l i =
+    samePair (canonQueue 1 (pairAt l i)) (pairAt l i)
+    && (samePair (canonQueue 2 (pairAt l (i + 24))) (pairAt l (i + 24)) && samePair (canonQueue 3 (pairAt l (i + 48))) (pairAt l (i + 48)))
 
 -- all behind the word number is 0
 unfoldable pub clearBehind : Row → Bool

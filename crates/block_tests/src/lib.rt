@@ -9,7 +9,7 @@ ghost use Rattle.words.specs.Blocks.{rowAt, pairAt, tileAt, homeAt};
 ghost use Rattle.codec.specs.Encode.{zeros, noRow, flag, rightNumber, encRequest, encForward, encReply, encToMemory, encFromMemory, encHead, directoryNumber, directoryTiles, encLine, requester};
 ghost use Rattle.codec.specs.Decode.{isSet, decRight, decRequest, decForward, decReply, decToMemory, decFromMemory, decCache, decWaiting, decDirectory, decLine};
 ghost use Rattle.codec.specs.Same.{same, sameRow, samePair, canonQueue, tileOk, homeOk};
-ghost use Rattle.block_tests.specs.Parts.{clearBehind, bare, onlyData, ackDataOk, loadAckOk, storeAckOk, cacheOk, waitingOk, ownedOk, sharedOk, heldOk, phaseOk};
+ghost use Rattle.block_tests.specs.Parts.{noneAt, queuesOk, clearBehind, bare, onlyData, ackDataOk, loadAckOk, storeAckOk, cacheOk, waitingOk, ownedOk, sharedOk, heldOk, phaseOk};
 
 // 0 exactly if the eight words of the row are 0.
 fn or8(w: &[u64], at: usize) -> u64
@@ -62,11 +62,19 @@ fn no_message(w: &[u64], at: usize) -> bool
     or12(w, at) == 0
 }
 
+// 0 exactly if the queue is empty.
+fn or24(w: &[u64], at: usize) -> u64
+    requires { ⌜ at + 24 ≤ length (now w) ⌝ }
+    ensures { λ r. ⌜ eqb r 0 ≡ noneAt (now (w .entry)) at ⌝ }
+{
+    or12(w, at) | or12(w, at + 12)
+}
+
 fn no_messages(w: &[u64], at: usize) -> bool
     requires { ⌜ at + 24 ≤ length (now w) ⌝ }
-    ensures { λ r. ⌜ r ≡ (sameRow noRow (rowAt (now (w .entry)) at) && sameRow noRow (rowAt (now (w .entry)) (at + 12))) ⌝ }
+    ensures { λ r. ⌜ r ≡ noneAt (now (w .entry)) at ⌝ }
 {
-    (or12(w, at) | or12(w, at + 12)) == 0
+    or24(w, at) == 0
 }
 
 fn below(x: u64, n: u64) -> bool
@@ -324,11 +332,31 @@ fn head_ok(w: &[u64], at: usize) -> bool
     cache_ok(w, at) & waiting_ok(w, at)
 }
 
+// Three queues, all empty.
+fn quiet(w: &[u64], at: usize) -> bool
+    requires { ⌜ at + 72 ≤ length (now w) ⌝ }
+    ensures { λ r. ⌜ r ≡ (noneAt (now (w .entry)) at && (noneAt (now (w .entry)) (at + 24) && noneAt (now (w .entry)) (at + 48))) ⌝ }
+{
+    (or24(w, at) | or24(w, at + 24) | or24(w, at + 48)) == 0
+}
+
+// The queues of a tile; mostly all three are empty.
+fn queues_ok(w: &[u64], at: usize) -> bool
+    requires { ⌜ at + 72 ≤ length (now w) ⌝ }
+    ensures { λ r. ⌜ r ≡ queuesOk (now (w .entry)) at ⌝ }
+{
+    if (w[at] | w[at + 24] | w[at + 48]) == 0 {
+        quiet(w, at)
+    } else {
+        requests_ok(w, at) & (forwards_ok(w, at + 24) & replies_ok(w, at + 48))
+    }
+}
+
 pub fn tile_ok_at(w: &[u64], at: usize) -> bool
     requires { ⌜ at + 84 ≤ length (now w) ⌝ }
     ensures { λ r. ⌜ r ≡ tileOk (tileAt (now (w .entry)) at) ⌝ }
 {
-    head_ok(w, at) & (requests_ok(w, at + 12) & (forwards_ok(w, at + 36) & replies_ok(w, at + 60)))
+    head_ok(w, at) & queues_ok(w, at + 12)
 }
 
 // A directory d of a bench of n tiles, with its mask or owner x.

@@ -1,3 +1,4 @@
+use Rattle.block_tests.specs.Parts.{noneAt}
 use borrow.Author.Tests.{eq-eqb, ne-eqb}
 use Rattle.codec.specs.Same.{samePair, canonQueue, canonMessage}
 use Rattle.words.specs.Blocks.{pairAt}
@@ -7,7 +8,7 @@ use Rattle.block_tests.proofs.replies_ok.Statement.{statement}
 use Rattle.block_tests.proofs.replies_ok.Tie as tie
 
 returns : tie.Need-returns
-unfolding samePair canonQueue canonMessage pairAt rowAt
+unfolding noneAt samePair canonQueue canonMessage pairAt rowAt
 returns c = simp (c .no-messages .ensures, eq-eqb _ _ (c .before .if1 .taken))
 
 returns-2 : tie.Need-returns-2
