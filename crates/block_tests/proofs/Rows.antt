@@ -6,16 +6,26 @@ use mathlib.Core.List.{List}
 use lib.Dec.{eqb}
 use lib.ListN.{getD}
 use lib.Bits.{bitOr}
-use borrow.Author.Tests.{eq-eqb}
+use borrow.Author.Tests.{eqb-true}
 use Rattle.words.specs.declared.Row.{Row}
 use Rattle.words.specs.declared.HomeBlock.{HomeBlock}
 use Rattle.words.specs.Blocks.{rowAt, pairAt}
 use Rattle.protocol.specs.Parts.{Home}
-use Rattle.codec.specs.Encode.{row, encReply, encHead, stateNumber, cacheWords, waitingNumber, waitingWord, waitingValue, phaseNumber, requester, owedTiles, encLine, lineOf}
-use Rattle.codec.specs.Decode.{decReply, ackData, decCache, decWaiting, decHome}
+use Rattle.codec.specs.Encode.{row, encRequest, encReply, encHead, stateNumber, cacheWords, waitingNumber, waitingWord, waitingValue, phaseNumber, requester, owedTiles, encLine, lineOf}
+use Rattle.codec.specs.Decode.{decRequest, decReply, ackData, decCache, decWaiting, decHome}
 use Rattle.codec.specs.Same.{same, sameRow, samePair, canonQueue, canonControl, homeOk}
-use Rattle.block_tests.specs.Parts.{noneAt, queuesOk, clearBehind, bare, ackDataOk, loadAckOk, storeAckOk, cacheOk, waitingOk, heldOk, phaseOk}
-use Rattle.block_tests.proofs.Laws.{or-none, and-true, and-false, and-assoc, zero-left, one-left, same-self}
+use Rattle.block_tests.specs.Parts.{noneAt, queuesOk, clearBehind, bare, requestWordOk, ackDataOk, loadAckOk, storeAckOk, cacheOk, waitingOk, heldOk, phaseOk}
+use Rattle.block_tests.proofs.Laws.{or-none, flip, and-true, and-false, and-assoc, zero-left, one-left, same-self}
+
+pub request : (r : Row) → (requestWordOk (r .n0) (r .n1) && clearBehind r) ≡ sameRow (encRequest (decRequest r)) r
+unfolding requestWordOk clearBehind sameRow encRequest decRequest
+request r = go (eqb (r .n0) 31) refl (eqb (r .n0) 2) refl (eqb (r .n0) 13) refl
+  where
+    go : (s : Bool) → eqb (r .n0) 31 ≡ s → (t : Bool) → eqb (r .n0) 2 ≡ t → (u : Bool) → eqb (r .n0) 13 ≡ u → (requestWordOk (r .n0) (r .n1) && clearBehind r) ≡ sameRow (encRequest (decRequest r)) r
+    go true p t q u v = simp (eqb-true (r .n0) 31 p)
+    go false p true q u v = simp (eqb-true (r .n0) 2 q)
+    go false p false q true v = simp (eqb-true (r .n0) 13 v)
+    go false p false q false v = simp (p, q, v, flip 13 (r .n0))
 
 pub load-ack : (r : Row) → r .n0 ≡ 21 → loadAckOk r ≡ sameRow (encReply (decReply r)) r
 unfolding loadAckOk ackDataOk bare clearBehind sameRow encReply decReply ackData

@@ -31,6 +31,10 @@ bare r = eqb 0 (r .n1) && clearBehind r
 unfoldable pub onlyData : Row → Bool
 onlyData r = eqb 0 (r .n1) && (eqb 0 (r .n2) && eqb 0 (r .n3))
 
+-- the word of a request of type k
+unfoldable pub requestWordOk : ℕ → ℕ → Bool
+requestWordOk k w = cond (eqb k 31) (eqb (w % 8) w) (cond (eqb k 2) (eqb (w % 8) w) (cond (eqb k 13) (eqb 0 w) false))
+
 -- flag and data of an ack
 unfoldable pub ackDataOk : Row → Bool
 ackDataOk r = cond (eqb (r .n3) 0) (same zeros (r .words)) (eqb (r .n3) 1)

@@ -9,7 +9,7 @@ ghost use Rattle.words.specs.Blocks.{rowAt, pairAt, tileAt, homeAt};
 ghost use Rattle.codec.specs.Encode.{zeros, noRow, flag, rightNumber, encRequest, encForward, encReply, encToMemory, encFromMemory, encHead, directoryNumber, directoryTiles, encLine, requester};
 ghost use Rattle.codec.specs.Decode.{isSet, decRight, decRequest, decForward, decReply, decToMemory, decFromMemory, decCache, decWaiting, decDirectory, decLine};
 ghost use Rattle.codec.specs.Same.{same, sameRow, samePair, canonQueue, tileOk, homeOk};
-ghost use Rattle.block_tests.specs.Parts.{noneAt, queuesOk, clearBehind, bare, onlyData, ackDataOk, loadAckOk, storeAckOk, cacheOk, waitingOk, ownedOk, sharedOk, heldOk, phaseOk};
+ghost use Rattle.block_tests.specs.Parts.{noneAt, queuesOk, clearBehind, bare, onlyData, requestWordOk, ackDataOk, loadAckOk, storeAckOk, cacheOk, waitingOk, ownedOk, sharedOk, heldOk, phaseOk};
 
 // 0 exactly if the eight words of the row are 0.
 fn or8(w: &[u64], at: usize) -> u64
@@ -111,18 +111,23 @@ fn right_ok(x: u64) -> bool
     }
 }
 
+// The word of a request of type k.
+fn request_word_ok(k: u64, word: u64) -> bool
+    ensures { λ r. ⌜ r ≡ requestWordOk k word ⌝ }
+{
+    match k {
+        31 => below(word, 8),
+        2 => below(word, 8),
+        13 => 0 == word,
+        _ => false,
+    }
+}
+
 fn request_ok(w: &[u64], at: usize) -> bool
     requires { ⌜ at + 12 ≤ length (now w) ⌝ }
     ensures { λ r. ⌜ r ≡ sameRow (encRequest (decRequest (rowAt (now (w .entry)) at))) (rowAt (now (w .entry)) at) ⌝ }
 {
-    let k = w[at];
-    let word = w[at + 1];
-    match k {
-        31 => below(word, 8) & clear_behind(w, at),
-        2 => below(word, 8) & clear_behind(w, at),
-        13 => bare(w, at),
-        _ => false,
-    }
+    request_word_ok(w[at], w[at + 1]) & clear_behind(w, at)
 }
 
 fn grant_ok(w: &[u64], at: usize) -> bool
