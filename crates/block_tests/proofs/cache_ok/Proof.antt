@@ -10,7 +10,7 @@ use Rattle.block_tests.proofs.cache_ok.Tie as tie
 
 returns : tie.Need-returns
 unfolding cacheOk rowAt stateNumber cacheWords decCache rightNumber decRight
-returns c = simp (c .clear-data .ensures, c .before .match .keys1, same-self)
+returns c = simp (c .clear-data .ensures, c .before .match .keys1)
 
 returns-2 : tie.Need-returns-2
 unfolding cacheOk rowAt stateNumber cacheWords decCache rightNumber decRight
@@ -26,7 +26,7 @@ returns-4 c = simp (c .match .keys4, same-self)
 
 returns-5 : tie.Need-returns-5
 unfolding cacheOk rowAt stateNumber cacheWords decCache rightNumber decRight
-returns-5 c = simp (ne-eqb _ _ (c .match .rest .1), ne-left _ _ (c .match .rest .1), ne-eqb _ _ (c .match .rest .0 .1), ne-left _ _ (c .match .rest .0 .1), ne-eqb _ _ (c .match .rest .0 .0 .1), ne-left _ _ (c .match .rest .0 .0 .1), ne-eqb _ _ (c .match .rest .0 .0 .0 .1), ne-left _ _ (c .match .rest .0 .0 .0 .1), same-self)
+returns-5 c = simp (ne-left _ _ (c .match .rest .1), ne-eqb _ _ (c .match .rest .0 .1), ne-eqb _ _ (c .match .rest .0 .0 .1), ne-eqb _ _ (c .match .rest .0 .0 .0 .1), same-self)
 
 pub cache-ok-spec : {M : Type 1} → statement M
 cache-ok-spec =

@@ -20,7 +20,7 @@ returns-3 c = simp (c .below .ensures, c .before .match .keys3)
 
 returns-4 : tie.Need-returns-4
 unfolding directoryNumber directoryTiles decDirectory
-returns-4 c = simp (ne-eqb _ _ (c .match .rest .1), ne-left _ _ (c .match .rest .1), ne-eqb _ _ (c .match .rest .0 .1), ne-left _ _ (c .match .rest .0 .1), ne-eqb _ _ (c .match .rest .0 .0 .1), ne-left _ _ (c .match .rest .0 .0 .1))
+returns-4 c = simp (ne-left _ _ (c .match .rest .1), ne-eqb _ _ (c .match .rest .0 .1), ne-eqb _ _ (c .match .rest .0 .0 .1))
 
 pub directory-ok-spec : {M : Type 1} → statement M
 directory-ok-spec =

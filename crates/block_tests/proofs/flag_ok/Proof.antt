@@ -15,7 +15,7 @@ returns-2 c = simp (c .match .keys2)
 
 returns-3 : tie.Need-returns-3
 unfolding flag isSet
-returns-3 c = simp (ne-eqb _ _ (c .match .rest .1), ne-left _ _ (c .match .rest .1), ne-eqb _ _ (c .match .rest .0 .1), ne-left _ _ (c .match .rest .0 .1))
+returns-3 c = simp (ne-left _ _ (c .match .rest .1), ne-eqb _ _ (c .match .rest .0 .1))
 
 pub flag-ok-spec : {M : Type 1} → statement M
 flag-ok-spec = tie.close (tie.spec returns returns-2 returns-3)

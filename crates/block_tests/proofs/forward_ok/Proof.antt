@@ -11,15 +11,15 @@ use Rattle.block_tests.proofs.forward_ok.Tie as tie
 
 returns : tie.Need-returns
 unfolding sameRow rowAt clearBehind bare onlyData encForward decForward
-returns c = simp (c .bare .ensures, c .before .match .keys1, same-self, and-true)
+returns c = simp (c .bare .ensures, c .before .match .keys1)
 
 returns-2 : tie.Need-returns-2
 unfolding sameRow rowAt clearBehind bare onlyData encForward decForward
-returns-2 c = simp (c .bare2 .ensures, c .before .match .keys2, same-self, and-true)
+returns-2 c = simp (c .bare2 .ensures, c .before .match .keys2)
 
 returns-3 : tie.Need-returns-3
 unfolding sameRow rowAt clearBehind bare onlyData encForward decForward
-returns-3 c = simp (c .bare3 .ensures, c .before .match .keys3, same-self, and-true)
+returns-3 c = simp (c .bare3 .ensures, c .before .match .keys3)
 
 returns-4 : tie.Need-returns-4
 unfolding sameRow rowAt clearBehind bare onlyData encForward decForward
@@ -27,7 +27,7 @@ returns-4 c = simp (c .grant-ok .ensures, c .before .match .keys4, same-self, an
 
 returns-5 : tie.Need-returns-5
 unfolding sameRow rowAt clearBehind bare onlyData encForward decForward
-returns-5 c = simp (ne-eqb _ _ (c .match .rest .1), ne-left _ _ (c .match .rest .1), ne-eqb _ _ (c .match .rest .0 .1), ne-left _ _ (c .match .rest .0 .1), ne-eqb _ _ (c .match .rest .0 .0 .1), ne-left _ _ (c .match .rest .0 .0 .1), ne-eqb _ _ (c .match .rest .0 .0 .0 .1), ne-left _ _ (c .match .rest .0 .0 .0 .1), same-self, and-true)
+returns-5 c = simp (ne-left _ _ (c .match .rest .1), ne-eqb _ _ (c .match .rest .0 .1), ne-eqb _ _ (c .match .rest .0 .0 .1), ne-eqb _ _ (c .match .rest .0 .0 .0 .1), same-self)
 
 pub forward-ok-spec : {M : Type 1} → statement M
 forward-ok-spec =

@@ -15,11 +15,11 @@ returns c = simp (c .only-data .ensures, c .before .match .keys1, same-self, and
 
 returns-2 : tie.Need-returns-2
 unfolding sameRow rowAt clearBehind bare onlyData encFromMemory decFromMemory
-returns-2 c = simp (c .bare .ensures, c .before .match .keys2, same-self, and-true)
+returns-2 c = simp (c .bare .ensures, c .before .match .keys2)
 
 returns-3 : tie.Need-returns-3
 unfolding sameRow rowAt clearBehind bare onlyData encFromMemory decFromMemory
-returns-3 c = simp (ne-eqb _ _ (c .match .rest .1), ne-left _ _ (c .match .rest .1), ne-eqb _ _ (c .match .rest .0 .1), ne-left _ _ (c .match .rest .0 .1), same-self, and-true)
+returns-3 c = simp (ne-left _ _ (c .match .rest .1), ne-eqb _ _ (c .match .rest .0 .1))
 
 pub from-memory-ok-spec : {M : Type 1} → statement M
 from-memory-ok-spec =

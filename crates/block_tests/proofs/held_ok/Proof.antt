@@ -1,4 +1,4 @@
-use Rattle.block_tests.proofs.Laws.{and-true, ne-left, same-self}
+use Rattle.block_tests.proofs.Laws.{and-true, same-self}
 use borrow.Author.Tests.{ne-eqb}
 use Rattle.block_tests.specs.Parts.{heldOk, ownedOk, sharedOk}
 use Rattle.codec.specs.Encode.{encLine, lineOf, directoryNumber, directoryTiles}
@@ -30,19 +30,19 @@ returns-5 c = simp (c .shared-ok2 .ensures, c .before .match .keys5, same-self, 
 
 returns-6 : tie.Need-returns-6
 unfolding heldOk ownedOk sharedOk encLine lineOf decHome directoryNumber directoryTiles sameRow
-returns-6 c = simp (c .line-ok .ensures, c .before .match .keys6, same-self, and-true)
+returns-6 c = simp (c .line-ok .ensures, c .before .match .keys6)
 
 returns-7 : tie.Need-returns-7
 unfolding heldOk ownedOk sharedOk encLine lineOf decHome directoryNumber directoryTiles sameRow
-returns-7 c = simp (c .line-ok2 .ensures, c .before .match .keys7, same-self, and-true)
+returns-7 c = simp (c .line-ok2 .ensures, c .before .match .keys7)
 
 returns-8 : tie.Need-returns-8
 unfolding heldOk ownedOk sharedOk encLine lineOf decHome directoryNumber directoryTiles sameRow
-returns-8 c = simp (c .line-ok3 .ensures, c .before .match .keys8, same-self, and-true)
+returns-8 c = simp (c .line-ok3 .ensures, c .before .match .keys8)
 
 returns-9 : tie.Need-returns-9
 unfolding heldOk ownedOk sharedOk encLine lineOf decHome directoryNumber directoryTiles sameRow
-returns-9 c = simp (c .line-ok4 .ensures, ne-eqb _ _ (c .before .match .rest .1), ne-left _ _ (c .before .match .rest .1), ne-eqb _ _ (c .before .match .rest .0 .1), ne-left _ _ (c .before .match .rest .0 .1), ne-eqb _ _ (c .before .match .rest .0 .0 .1), ne-left _ _ (c .before .match .rest .0 .0 .1), ne-eqb _ _ (c .before .match .rest .0 .0 .0 .1), ne-left _ _ (c .before .match .rest .0 .0 .0 .1), ne-eqb _ _ (c .before .match .rest .0 .0 .0 .0 .1), ne-left _ _ (c .before .match .rest .0 .0 .0 .0 .1), ne-eqb _ _ (c .before .match .rest .0 .0 .0 .0 .0 .1), ne-left _ _ (c .before .match .rest .0 .0 .0 .0 .0 .1), ne-eqb _ _ (c .before .match .rest .0 .0 .0 .0 .0 .0 .1), ne-left _ _ (c .before .match .rest .0 .0 .0 .0 .0 .0 .1), ne-eqb _ _ (c .before .match .rest .0 .0 .0 .0 .0 .0 .0 .1), ne-left _ _ (c .before .match .rest .0 .0 .0 .0 .0 .0 .0 .1), same-self, and-true)
+returns-9 c = simp (c .line-ok4 .ensures, ne-eqb _ _ (c .before .match .rest .1), ne-eqb _ _ (c .before .match .rest .0 .1), ne-eqb _ _ (c .before .match .rest .0 .0 .1), ne-eqb _ _ (c .before .match .rest .0 .0 .0 .1), ne-eqb _ _ (c .before .match .rest .0 .0 .0 .0 .1), ne-eqb _ _ (c .before .match .rest .0 .0 .0 .0 .0 .1), ne-eqb _ _ (c .before .match .rest .0 .0 .0 .0 .0 .0 .1), ne-eqb _ _ (c .before .match .rest .0 .0 .0 .0 .0 .0 .0 .1))
 
 pub held-ok-spec : {M : Type 1} → statement M
 held-ok-spec =

@@ -1,4 +1,4 @@
-use Rattle.block_tests.proofs.Laws.{and-true, and-assoc, zero-left, same-self}
+use Rattle.block_tests.proofs.Laws.{and-true, zero-left, same-self}
 use borrow.Author.Tests.{eq-eqb, ne-eqb}
 use Rattle.codec.specs.Same.{sameRow}
 use Rattle.words.specs.Blocks.{rowAt}
@@ -11,11 +11,11 @@ use Rattle.block_tests.proofs.line_ok.Tie as tie
 
 returns : tie.Need-returns
 unfolding sameRow rowAt bare clearBehind encLine decLine
-returns c = simp (c .bare .ensures, eq-eqb _ _ (c .before .if1 .taken), same-self, and-true, and-assoc, zero-left)
+returns c = simp (c .bare .ensures, eq-eqb _ _ (c .before .if1 .taken), zero-left)
 
 returns-2 : tie.Need-returns-2
 unfolding sameRow rowAt bare clearBehind encLine decLine
-returns-2 c = simp (c .directory-ok .ensures, c .before .before .before .flag-ok .ensures, ne-eqb _ _ (c .before .before .before .before .before .if1 .left), same-self, and-true, and-assoc)
+returns-2 c = simp (c .directory-ok .ensures, c .before .before .before .flag-ok .ensures, ne-eqb _ _ (c .before .before .before .before .before .if1 .left), same-self, and-true)
 
 pub line-ok-spec : {M : Type 1} → statement M
 line-ok-spec =

@@ -1,4 +1,3 @@
-use Rattle.block_tests.proofs.Laws.{ne-left}
 use borrow.Author.Tests.{ne-eqb}
 use Rattle.block_tests.specs.Parts.{loadAckOk}
 use Rattle.words.specs.Blocks.{rowAt}
@@ -16,7 +15,7 @@ returns-2 c = simp (c .ack-data-ok .ensures, c .before .before .match .keys2)
 
 returns-3 : tie.Need-returns-3
 unfolding loadAckOk rowAt
-returns-3 c = simp (ne-eqb _ _ (c .match .rest .1), ne-left _ _ (c .match .rest .1), ne-eqb _ _ (c .match .rest .0 .1), ne-left _ _ (c .match .rest .0 .1))
+returns-3 c = simp (ne-eqb _ _ (c .match .rest .1), ne-eqb _ _ (c .match .rest .0 .1))
 
 pub load-ack-ok-spec : {M : Type 1} → statement M
 load-ack-ok-spec =

@@ -25,11 +25,11 @@ returns-3 c = c .store-ack-ok .ensures ∙ store-ack _ (c .before .match .keys3)
 
 returns-4 : tie.Need-returns-4
 unfolding sameRow rowAt clearBehind bare onlyData encReply decReply
-returns-4 c = simp (c .bare .ensures, c .before .match .keys4, same-self, and-true)
+returns-4 c = simp (c .bare .ensures, c .before .match .keys4)
 
 returns-5 : tie.Need-returns-5
 unfolding sameRow rowAt clearBehind bare onlyData encReply decReply
-returns-5 c = simp (ne-eqb _ _ (c .match .rest .1), ne-left _ _ (c .match .rest .1), ne-eqb _ _ (c .match .rest .0 .1), ne-left _ _ (c .match .rest .0 .1), ne-eqb _ _ (c .match .rest .0 .0 .1), ne-left _ _ (c .match .rest .0 .0 .1), ne-eqb _ _ (c .match .rest .0 .0 .0 .1), ne-left _ _ (c .match .rest .0 .0 .0 .1), same-self, and-true)
+returns-5 c = simp (ne-left _ _ (c .match .rest .1), ne-eqb _ _ (c .match .rest .0 .1), ne-eqb _ _ (c .match .rest .0 .0 .1), ne-eqb _ _ (c .match .rest .0 .0 .0 .1))
 
 pub reply-ok-spec : {M : Type 1} → statement M
 reply-ok-spec =

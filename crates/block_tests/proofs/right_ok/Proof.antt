@@ -19,7 +19,7 @@ returns-3 c = simp (c .match .keys3)
 
 returns-4 : tie.Need-returns-4
 unfolding rightNumber decRight
-returns-4 c = simp (ne-eqb _ _ (c .match .rest .1), ne-left _ _ (c .match .rest .1), ne-eqb _ _ (c .match .rest .0 .1), ne-left _ _ (c .match .rest .0 .1), ne-eqb _ _ (c .match .rest .0 .0 .1), ne-left _ _ (c .match .rest .0 .0 .1))
+returns-4 c = simp (ne-left _ _ (c .match .rest .1), ne-eqb _ _ (c .match .rest .0 .1), ne-eqb _ _ (c .match .rest .0 .0 .1))
 
 pub right-ok-spec : {M : Type 1} → statement M
 right-ok-spec = tie.close (tie.spec returns returns-2 returns-3 returns-4)

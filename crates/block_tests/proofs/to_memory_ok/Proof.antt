@@ -11,7 +11,7 @@ use Rattle.block_tests.proofs.to_memory_ok.Tie as tie
 
 returns : tie.Need-returns
 unfolding sameRow rowAt clearBehind bare onlyData encToMemory decToMemory
-returns c = simp (c .bare .ensures, c .before .match .keys1, same-self, and-true)
+returns c = simp (c .bare .ensures, c .before .match .keys1)
 
 returns-2 : tie.Need-returns-2
 unfolding sameRow rowAt clearBehind bare onlyData encToMemory decToMemory
@@ -19,7 +19,7 @@ returns-2 c = simp (c .only-data .ensures, c .before .match .keys2, same-self, a
 
 returns-3 : tie.Need-returns-3
 unfolding sameRow rowAt clearBehind bare onlyData encToMemory decToMemory
-returns-3 c = simp (ne-eqb _ _ (c .match .rest .1), ne-left _ _ (c .match .rest .1), ne-eqb _ _ (c .match .rest .0 .1), ne-left _ _ (c .match .rest .0 .1), same-self, and-true)
+returns-3 c = simp (ne-left _ _ (c .match .rest .1), ne-eqb _ _ (c .match .rest .0 .1), same-self)
 
 pub to-memory-ok-spec : {M : Type 1} → statement M
 to-memory-ok-spec =

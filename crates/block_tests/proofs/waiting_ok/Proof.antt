@@ -10,11 +10,11 @@ use Rattle.block_tests.proofs.waiting_ok.Tie as tie
 
 returns : tie.Need-returns
 unfolding waitingOk rowAt waitingNumber waitingWord waitingValue decWaiting
-returns c = simp (c .match .keys1, and-true)
+returns c = simp (c .match .keys1)
 
 returns-2 : tie.Need-returns-2
 unfolding waitingOk rowAt waitingNumber waitingWord waitingValue decWaiting
-returns-2 c = simp (c .below .ensures, c .before .match .keys2, and-true)
+returns-2 c = simp (c .below .ensures, c .before .match .keys2)
 
 returns-3 : tie.Need-returns-3
 unfolding waitingOk rowAt waitingNumber waitingWord waitingValue decWaiting
@@ -22,7 +22,7 @@ returns-3 c = simp (c .below2 .ensures, c .before .match .keys3, and-true, equal
 
 returns-4 : tie.Need-returns-4
 unfolding waitingOk rowAt waitingNumber waitingWord waitingValue decWaiting
-returns-4 c = simp (ne-eqb _ _ (c .match .rest .1), ne-left _ _ (c .match .rest .1), ne-eqb _ _ (c .match .rest .0 .1), ne-left _ _ (c .match .rest .0 .1), ne-eqb _ _ (c .match .rest .0 .0 .1), ne-left _ _ (c .match .rest .0 .0 .1), and-true)
+returns-4 c = simp (ne-left _ _ (c .match .rest .1), ne-eqb _ _ (c .match .rest .0 .1), ne-eqb _ _ (c .match .rest .0 .0 .1))
 
 pub waiting-ok-spec : {M : Type 1} → statement M
 waiting-ok-spec =
