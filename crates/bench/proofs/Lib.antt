@@ -1,13 +1,3 @@
-pub mod Guard
-pub mod Laid
-pub mod Decoded
-pub mod TileCalls
-pub mod Turns
-pub mod Posted
-pub mod Finished
-pub mod Commits
-pub mod Searched
-pub mod HomeCalls
 pub mod Started
 pub mod RoundTrip
 pub mod Demand3

@@ -22,10 +22,10 @@ use Rattle.codec.specs.Range.{TilesIn, BenchIn, InRange}
 use Rattle.codec.proofs.Laws.{both}
 use Rattle.codec.proofs.RangeKept.{tile-in}
 use Rattle.codec.proofs.Round.{tile-round, tile-passes, tile-eight, tile-read, home-passes, home-eight, bench-round, bench-read}
-use Rattle.bench.specs.Calls.{need, tilesOk, wellFormed}
+use Rattle.bench_words.specs.Calls.{need, tilesOk, wellFormed}
 use Rattle.bench.specs.Theorems.{WellFormed-statement}
-use Rattle.bench.proofs.Laid.{AllFull, Laid, length-tiles, laid-length, laid-home, laid-tile}
-use Rattle.bench.proofs.Decoded.{Found, found, count, laid-out, encoded}
+use Rattle.bench_words.proofs.Laid.{AllFull, Laid, length-tiles, laid-length, laid-home, laid-tile}
+use Rattle.bench_words.proofs.Decoded.{Found, found, count, laid-out, encoded}
 
 -- ---- from a bench to its words and back
 

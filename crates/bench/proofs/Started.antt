@@ -13,10 +13,20 @@ use Rattle.protocol.specs.Parts.{Words, Queue, empty, Tile, tileOf, invalid, no
 use Rattle.protocol.specs.Bench.{freshTile, fresh}
 use Rattle.codec.specs.Encode.{noRow, encTile, encHead, encQueue, stateNumber, cacheWords, waitingNumber, waitingWord, waitingValue, encTiles, encHome, encLine, lineOf, phaseNumber, requester, owedTiles, encode}
 use Rattle.codec.specs.Sent.{sentOn, sentTo}
-use Rattle.bench.specs.declared.Answer.{Answer}
-use Rattle.bench.specs.Calls.{need, refusal, answerOf, startOn, wordsStarted}
-use Rattle.bench.specs.Post.{freshBlock, freshTileBlock, freshTiles}
+use Rattle.bench_words.specs.declared.Answer.{Answer}
+use Rattle.bench_words.specs.Calls.{need, refusal, answerOf, startOn, wordsStarted}
+use Rattle.bench.specs.Fresh.{freshBlock, freshTileBlock, freshTiles}
 use Rattle.bench.specs.Runs.{startedWords}
+
+-- one turn of the loop over the tiles, and its end
+module _ (l : List ℕ) (at n : ℕ) where
+  pub fresh-turn : 0 < n → freshTiles l at n ≡ freshTiles (over l at (tileWords freshTileBlock)) (at + 84) (n - 1)
+  unfolding freshTiles
+  fresh-turn h = let e : n ≡ suc (n - 1) = omega arith in ap (freshTiles l at) e
+
+  pub fresh-end : n ≤ 0 → freshTiles l at n ≡ l
+  unfolding freshTiles
+  fresh-end h = let e : n ≡ 0 = omega arith in ap (freshTiles l at) e
 
 tile-fresh : encTile freshTile ≡ freshTileBlock
 unfolding encTile encHead encQueue stateNumber cacheWords waitingNumber waitingWord waitingValue

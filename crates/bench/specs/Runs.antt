@@ -10,8 +10,8 @@ use Rattle.protocol.specs.Parts.{Words, Bench, Call}
 use Rattle.protocol.specs.Bench.{fresh, step}
 use Rattle.protocol.specs.Demand3 as rules
 use Rattle.protocol.specs.Demand3.{after, Event, event, one-if, isAccepted, requestAtFront, takes, takesAnother}
-use Rattle.bench.specs.declared.Answer.{Answer}
-use Rattle.bench.specs.Calls.{need, stepOn, answerOf, wordsAfter}
+use Rattle.bench_words.specs.declared.Answer.{Answer}
+use Rattle.bench_words.specs.Calls.{need, stepOn, answerOf, wordsAfter}
 
 -- the words l after the start of n tiles with the memory's words
 unfoldable pub startedWords : ℕ → Words → List ℕ → List ℕ

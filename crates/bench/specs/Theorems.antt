@@ -11,7 +11,7 @@ use Rattle.codec.specs.Range.{InRange}
 use Rattle.protocol.specs.Parts.{Words, Bench, Call}
 use Rattle.protocol.specs.Bench.{fresh, tileAt}
 use Rattle.protocol.specs.Demand3.{runs, Event, history, waits, isWaiting, tilesOf, isDelivery, isOther, Quiet, isMisfit}
-use Rattle.bench.specs.Calls.{need, wellFormed}
+use Rattle.bench_words.specs.Calls.{need, wellFormed}
 use Rattle.bench.specs.Runs.{startedWords, answerTo, callWords, callAnswers, ruleAnswers, said, callHistory, canBeAccepted, acceptedOf, passedOver}
 
 -- Words are well formed exactly if they begin with the encoding of a bench in range, and then they are the encoding of what they

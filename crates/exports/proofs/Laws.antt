@@ -1,32 +1,24 @@
 -- Laws of answers in lent words. Assumes nothing.
-use Prim.Native.Nat.{ℕ, suc, _+_, _≤_, _<_}
+use Prim.Native.Nat.{ℕ, suc, _+_, _≤_}
 use mathlib.Core.Path.{_≡_, refl, sym, ap, subst, _∙_}
 use mathlib.Core.Bool.{Bool, true, false}
-use mathlib.Core.List.{List, [], _∷_, _++_}
+use mathlib.Core.List.{List, [], _∷_}
 use native.Mathlib.Omega.{arith}
 use lib.ListN.{length, getD, drop, drop-of-length-le}
 use lib.Seq.{drop-cons}
 use Rattle.words.proofs.Over.{reads}
 use Rattle.flit_words.specs.declared.Header.{Header}
-use borrow.Author.Tests.{le-leb, lt-leb}
 use Rattle.protocol.specs.Parts.{Call}
-use Rattle.bench.specs.declared.Answer.{Answer}
-use Rattle.bench.specs.Calls.{stepOn, answerOf, wordsAfter}
+use Rattle.bench_words.specs.declared.Answer.{Answer}
+use Rattle.bench_words.specs.Calls.{stepOn, answerOf, wordsAfter}
 use Rattle.bench.specs.Runs.{answerTo, afterCall}
 use Rattle.job_format.specs.declared.JobCall.{JobCall}
 use Rattle.job_format.specs.Job.{callOf}
 use Rattle.jobs.specs.Run.{benchCall}
 use Rattle.job_lines.specs.Pieces.{AllPlaced, buffersAfter, placesAfter}
 use Rattle.job_lines.specs.Listing.{answerLines, callLines}
-use Rattle.exports.specs.Told.{told, answerWords, fieldWords, fieldsFrom, bit}
-
-pub told-fits : (l vs : List ℕ) → length vs ≤ length l → vs ++ drop (length vs) l ≡ told l vs
-unfolding told
-told-fits l vs h = rw (le-leb (length vs) (length l) h)
-
-pub told-short : (l vs : List ℕ) → length l < length vs → l ≡ told l vs
-unfolding told
-told-short l vs h = rw (lt-leb (length vs) (length l) h)
+use Rattle.telling.specs.Told.{told, answerWords, fieldWords}
+use Rattle.exports.specs.Given.{fieldsFrom, bit}
 
 pub bit-true : {a b : Bool} → a ≡ b → a ≡ true → 1 ≡ bit b
 bit-true e t = rw (← e, t)

@@ -3,10 +3,11 @@
 ghost use mathlib.Core.Path.{_≡_};
 ghost use lib.ListN.{length};
 ghost use Rattle.protocol.specs.Parts.{load, store, evict, taking, toTile, fromTile, memoryStep, memoryAck, homeEviction};
-ghost use Rattle.bench.specs.Calls.{wellFormed, stepOn, answerOf, wordsAfter, refusal, wordsStarted};
-ghost use Rattle.exports.specs.Told.{told, answerWords, startFrom, bit};
-use crate::telling::tell_answer;
+ghost use Rattle.bench_words.specs.Calls.{wellFormed, stepOn, answerOf, wordsAfter, refusal, wordsStarted};
+ghost use Rattle.telling.specs.Told.{told, answerWords};
+ghost use Rattle.exports.specs.Given.{startFrom, bit};
 use bench::Answer;
+use telling::tell_answer;
 
 fn refused(n: u64) -> Answer
     ensures { λ r. ⌜ r ≡ refusal n ⌝ }

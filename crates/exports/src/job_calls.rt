@@ -1,13 +1,14 @@
 // Jobs: the check of a whole job, and its calls made one by one with their lines of the listing.
 ghost use mathlib.Core.Path.{_≡_};
 ghost use mathlib.Core.List.{_∷_, []};
-ghost use Rattle.bench.specs.Calls.{stepOn, answerOf, wordsAfter};
+ghost use Rattle.bench_words.specs.Calls.{stepOn, answerOf, wordsAfter};
 ghost use Rattle.job_format.specs.Job.{checkJob, jobCallAt};
 ghost use Rattle.job_lines.specs.Pieces.{buffersAfter, placesAfter};
 ghost use Rattle.job_lines.specs.Listing.{callLines};
-ghost use Rattle.exports.specs.Told.{told, checkedWords, callIn};
-use crate::telling::tell_checked;
-use crate::telling::tell_two;
+ghost use Rattle.telling.specs.Told.{told, checkedWords};
+ghost use Rattle.exports.specs.Given.{callIn};
+use telling::tell_checked;
+use telling::tell_two;
 
 // Checks a whole job. Tells the refusal number and the offset of the bad field.
 #[no_mangle]

@@ -4,4 +4,3 @@ mod bench_calls;
 mod flit_calls;
 mod job_calls;
 mod message_calls;
-mod telling;

@@ -3,9 +3,10 @@ ghost use mathlib.Core.Path.{_≡_};
 ghost use lib.ListN.{length};
 ghost use Rattle.sent.specs.Places.{placesOf};
 ghost use Rattle.messages.specs.Rows.{messageOf};
-ghost use Rattle.exports.specs.Told.{told, writtenWords, sentWritten, sentBuffer};
-use crate::telling::tell_written;
+ghost use Rattle.telling.specs.Told.{told, writtenWords};
+ghost use Rattle.exports.specs.Given.{sentWritten, sentBuffer};
 use flits::Written;
+use telling::tell_written;
 
 // How many messages there are.
 #[no_mangle]

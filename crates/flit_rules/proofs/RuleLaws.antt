@@ -10,12 +10,13 @@ use lib.ListN.{getD}
 use borrow.Author.Tests.{eqb-true, ltb-true, leb-true, leb-false, eq-eqb}
 use Rattle.bits.specs.Field.{put}
 use Rattle.flit_words.specs.declared.Header.{Header}
-use Rattle.flit_rules.specs.declared.Row.{Row}
+use Rattle.flit_table.specs.declared.Row.{Row}
 use Rattle.flit_words.specs.Words.{bits, optionsOf, flit1Of, flit2Of, flit3Of}
-use Rattle.flit_rules.specs.Table.{rowOf}
+use Rattle.flit_table.specs.Table.{rowOf}
 use Rattle.flit_rules.specs.Rules.{all, allFrom, known, listed, portsListed, reservedClear, fits, narrow, absentClear, suits, allowed}
-use Rattle.flit_rules.proofs.Tests.{is-true, and-true, or-true}
-use Rattle.flit_rules.proofs.TableLaws.{past, row-holds, every}
+use Rattle.flit_table.proofs.Tests.{is-true, and-true, or-true}
+use Rattle.flit_table.proofs.Entries.{past}
+use Rattle.flit_rules.proofs.TableLaws.{row-holds, every}
 use Rattle.flit_words.proofs.HeaderLaws.{HeaderFits, reserved2, reserved3, options-clear}
 
 -- every test of a list holds where `all` does

@@ -4,7 +4,7 @@ use mathlib.Core.List.{List, [], _∷_}
 use Prim.Native.Nat.{ℕ, _^_}
 use lib.Dec.{eqb, ltb, leb}
 use Rattle.flit_words.specs.declared.Header.{Header}
-use Rattle.flit_rules.specs.declared.Row.{Row}
+use Rattle.flit_table.specs.declared.Row.{Row}
 use Rattle.flit_words.specs.Words.{bits, optionsOf}
 
 -- every test of a list holds

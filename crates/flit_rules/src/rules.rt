@@ -1,6 +1,6 @@
 ghost use mathlib.Core.Path.{_≡_};
 ghost use Rattle.flit_rules.specs.Rules.{known, lengthAllowed, listed, portsListed, reservedClear, narrow, absentClear, suits, allowed};
-use crate::Row;
+use flit_table::Row;
 use flit_words::Header;
 
 // 11

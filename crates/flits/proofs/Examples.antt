@@ -3,9 +3,9 @@ use mathlib.Core.Path.{_≡_, refl}
 use mathlib.Core.List.{List, [], _∷_}
 use Prim.Native.Nat.{ℕ}
 use Rattle.flit_words.specs.Words.{headerOf}
-use Rattle.flit_rules.specs.Table.{rowOf}
+use Rattle.flit_table.specs.Table.{rowOf}
 use Rattle.flit_rules.specs.Rules.{portsListed, reservedClear, allowed}
-use Rattle.flits.specs.Reading.{noNode, readRefusal, accepted, refused, readOf, dataOf}
+use Rattle.flit_reading.specs.Reading.{noNode, readRefusal, accepted, refused, readOf, dataOf}
 
 -- P10: flit 000000000005C041 alone reads as INV_FWDACK, tag 1; with bit 0 clear: 16
 pub p10 :

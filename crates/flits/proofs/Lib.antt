@@ -1,5 +1,3 @@
-pub mod ReadLaws
-pub mod WriteLaws
 pub mod RoundTrip
 pub mod RoundCalls
 pub mod Examples

@@ -10,13 +10,13 @@ use lib.Seq.{drop-at, length-take-le}
 use borrow.Author.Tests.{eq-eqb, ne-eqb, leb-true}
 use Rattle.flit_words.specs.declared.Header.{Header}
 use Rattle.flit_words.specs.Words.{headerOf}
-use Rattle.flit_rules.specs.Table.{rowOf, extra}
-use Rattle.flits.specs.declared.Read.{Read}
-use Rattle.flits.specs.declared.Written.{Written}
-use Rattle.flits.specs.Reading.{rowAt, headerAt, readRefusal, answer, readOf, dataOf}
-use Rattle.flits.specs.Writing.{refusals, writeRefusal, flitsOf, over, writtenOf, bufferOf}
+use Rattle.flit_table.specs.Table.{rowOf, extra}
+use Rattle.flit_reading.specs.declared.Read.{Read}
+use Rattle.flit_writing.specs.declared.Written.{Written}
+use Rattle.flit_reading.specs.Reading.{rowAt, headerAt, readRefusal, answer, readOf, dataOf}
+use Rattle.flit_writing.specs.Writing.{refusals, writeRefusal, flitsOf, over, writtenOf, bufferOf}
 use Rattle.flits.specs.Rounds.{copyRefusal, copiedOf, copyBuffer, echoOf}
-use Rattle.flits.proofs.ReadLaws.{holds, read-accepted, read-cases, data-length}
+use Rattle.flit_reading.proofs.ReadLaws.{holds, read-accepted, read-cases, data-length}
 use Rattle.flits.proofs.RoundTrip.{read-write, rewrite, write-read}
 
 pub refusal-of : (s : List ℕ) → readOf s .refusal ≡ readRefusal s

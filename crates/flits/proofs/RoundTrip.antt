@@ -16,17 +16,17 @@ use lib.ListN.{length, getD, take, drop, length-append, List·getD-append}
 use lib.Seq.{take-add, take-at, drop-at}
 use borrow.Author.Tests.{lt-ltb, le-ltb, ltb-true, ltb-false}
 use Rattle.flit_words.specs.declared.Header.{Header}
-use Rattle.flit_rules.specs.declared.Row.{Row}
+use Rattle.flit_table.specs.declared.Row.{Row}
 use Rattle.flit_words.specs.Words.{lengthOf, opcodeOf, headerOf, flit1Of, flit2Of, flit3Of}
-use Rattle.flit_rules.specs.Table.{rowOf, extra}
+use Rattle.flit_table.specs.Table.{rowOf, extra}
 use Rattle.flit_rules.proofs.TableLaws.{row-lengths}
 use Rattle.flit_words.proofs.HeaderLaws.{HeaderFits, header-flits, length-flits, opcode-flits, flit1-header, flit2-header, flit3-header}
 use Rattle.flit_rules.proofs.RuleLaws.{reserved-zero, header-fits, flit2-none, flit3-none, written-clear}
-use Rattle.flits.specs.Reading.{lowest, flit1, rowAt, flit2, flit3, headerAt, readRefusal, accepted, readOf, dataOf}
-use Rattle.flits.specs.Writing.{refusals, writeRefusal, headerFlits, flitsOf}
-use Rattle.flits.specs.Reading as R
-use Rattle.flits.proofs.ReadLaws.{holds, extra-le, Accepted, accepted-keeps, read-accepted, data-accepted, data-length}
-use Rattle.flits.proofs.WriteLaws.{header-length}
+use Rattle.flit_reading.specs.Reading.{lowest, flit1, rowAt, flit2, flit3, headerAt, readRefusal, accepted, readOf, dataOf}
+use Rattle.flit_writing.specs.Writing.{refusals, writeRefusal, headerFlits, flitsOf}
+use Rattle.flit_reading.specs.Reading as R
+use Rattle.flit_reading.proofs.ReadLaws.{holds, extra-le, Accepted, accepted-keeps, read-accepted, data-accepted, data-length}
+use Rattle.flit_writing.proofs.WriteLaws.{header-length}
 
 -- the first flits of a list
 take-one : (s : List ℕ) → 0 < length s → take 1 s ≡ getD s 0 0 ∷ []
@@ -130,7 +130,7 @@ module _ (h : Header) (ws rest : List ℕ) (room at : ℕ) (e : writeRefusal h (
   written : List ℕ
   written = flitsOf h ws ++ rest
 
-  tests : (k : ℕ) → Rattle.flits.proofs.ReadLaws.test (refusals (rowOf (h .opcode)) h (length ws) room at) k ≡ true
+  tests : (k : ℕ) → Rattle.flit_reading.proofs.ReadLaws.test (refusals (rowOf (h .opcode)) h (length ws) room at) k ≡ true
   unfolding writeRefusal
   tests = holds (refusals (rowOf (h .opcode)) h (length ws) room at) tt e
 

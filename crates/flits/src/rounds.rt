@@ -1,21 +1,21 @@
 // The round trips, said of the calls.
 ghost use mathlib.Core.Path.{_≡_};
 ghost use lib.ListN.{length};
-ghost use Rattle.flits.specs.Writing.{bufferOf};
+ghost use Rattle.flit_writing.specs.Writing.{bufferOf};
 ghost use Rattle.flits.specs.Rounds.{copiedOf, copyBuffer, echoOf};
-use crate::Read;
-use crate::Written;
+use flit_reading::Read;
 use flit_words::Header;
+use flit_writing::Written;
 
 // Reads the front message and writes it again at a place of the buffer: exactly the flits that were read.
 pub fn copy(flits: &[u64], buffer: &mut [u64], at: usize) -> Written
     ensures { λ r. ⌜ (r ≡ copiedOf (now (flits .entry)) (length (now (buffer .entry))) at) × (now (buffer .exit) ≡ copyBuffer (now (flits .entry)) (now (buffer .entry)) at) ⌝ }
 {
-    let front = crate::reading::read(flits);
+    let front = flit_reading::reading::read(flits);
     if front.refusal == 0 {
         let h = front.header;
-        let words = crate::reading::data_words(flits);
-        crate::writing::write(h, words, buffer, at)
+        let words = flit_reading::reading::data_words(flits);
+        flit_writing::writing::write(h, words, buffer, at)
     } else {
         Written {
             refusal: front.refusal,
@@ -28,10 +28,10 @@ pub fn copy(flits: &[u64], buffer: &mut [u64], at: usize) -> Written
 pub fn echo(h: Header, words: &[u64], buffer: &mut [u64], at: usize) -> Read
     ensures { λ r. ⌜ (r ≡ echoOf h (length (now (words .entry))) (length (now (buffer .entry))) at) × (now (buffer .exit) ≡ bufferOf h (now (words .entry)) (now (buffer .entry)) at) ⌝ }
 {
-    let done = crate::writing::write(h, words, buffer, at);
+    let done = flit_writing::writing::write(h, words, buffer, at);
     if done.refusal == 0 {
-        crate::reading::read_at(buffer, at)
+        flit_reading::reading::read_at(buffer, at)
     } else {
-        crate::reading::answer(done.refusal, h, 0, 0)
+        flit_reading::reading::answer(done.refusal, h, 0, 0)
     }
 }

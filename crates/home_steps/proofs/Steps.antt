@@ -16,8 +16,8 @@ use Rattle.protocol.specs.Parts.{Words, Queue, empty, one, two, Access, reading
 use Rattle.protocol.specs.Home as rules
 use Rattle.protocol.specs.Home.{Move, move}
 use Rattle.protocol.specs.Bench.{push, front, rest, kindOf}
-use Rattle.home_steps.specs.Numbers as numbers
-use Rattle.home_steps.specs.Numbers.{stop, quiet, tell, filed, setHome, setTaken, setMemory, pushed, popped, file, grant, ask, clear}
+use Rattle.home_parts.specs.Numbers as numbers
+use Rattle.home_parts.specs.Numbers.{stop, quiet, tell, filed, setHome, setTaken, setMemory, pushed, popped, file, grant, ask, clear}
 use Rattle.home_steps.specs.Rules.{HomeResult, stopped, went, Queues, queuesOf, fileOne, fileTo, fileAll, wentWith, movedHome, fitting, takenHome, writtenHome, acceptedHome, servedMemory, steppedHome, ackedFront, ackedHome, evictedHome, sentNumber, targets, forwardRow, encStep, encFront, told, DirectoryIn, LineIn, HomeIn}
 use Rattle.home_steps.proofs.Told.{add-small, told-moved}
 

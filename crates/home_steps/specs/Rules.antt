@@ -12,8 +12,8 @@ use Rattle.codec.specs.Encode.{noRow, encForward, encHome}
 use Rattle.protocol.specs.Parts.{Words, Queue, empty, one, two, Access, reading, writing, Request, loadReq, storeReq, wbGuardReq, Forward, Reply, wbReq, loadFwdAckS, loadFwdAckI, storeFwdAck, invFwdAck, ToMemory, loadMem, storeMem, FromMemory, loadMemAck, storeMemAck, Message, onNoc1, onNoc2, onNoc3, toMemory, fromMemory, Tile, Directory, uncached, sharedBy, ownedBy, Line, absent, present, Cause, request, eviction, Clearing, clearForStore, clearForEviction, Home, idle, awaitingLoad, awaitingOwner, awaitingAcks, awaitingStore, Bench, benchOf, Result, refused}
 use Rattle.protocol.specs.Home.{Move, move, members, serve, writeBack, loadAckS, loadAckI, storeAck, invAck, acknowledged, evictLine}
 use Rattle.protocol.specs.Bench.{push, front, rest, sendOne, sent, kindOf}
-use Rattle.home_steps.specs.declared.HomeStep.{HomeStep}
-use Rattle.home_steps.specs.Numbers.{stepOf, stop}
+use Rattle.home_parts.specs.declared.HomeStep.{HomeStep}
+use Rattle.home_parts.specs.Numbers.{stepOf, stop}
 
 -- a refusal number; or home, last taken, marks, memory, queues to and from memory, and messages sent
 pub data HomeResult : Type 0 where

@@ -15,12 +15,12 @@ use Rattle.sent.specs.Places.{nowhere}
 use Rattle.messages.specs.declared.Sent.{Sent}
 use Rattle.messages.specs.Rows.{sentAt}
 use Rattle.flit_words.specs.declared.Header.{Header}
-use Rattle.flit_rules.specs.Table.{rowOf, extra}
-use Rattle.flits.specs.Writing.{refusals, writeRefusal, flitsOf, over, writtenOf, bufferOf}
-use Rattle.flits.specs.declared.Written.{Written}
+use Rattle.flit_table.specs.Table.{rowOf, extra}
+use Rattle.flit_writing.specs.Writing.{refusals, writeRefusal, flitsOf, over, writtenOf, bufferOf}
+use Rattle.flit_writing.specs.declared.Written.{Written}
 use Rattle.message_flits.specs.Fields.{fieldsOf, wordsOf}
-use Rattle.flits.proofs.ReadLaws.{holds}
-use Rattle.flits.proofs.WriteLaws.{header-length}
+use Rattle.flit_reading.proofs.ReadLaws.{holds}
+use Rattle.flit_writing.proofs.WriteLaws.{header-length}
 use Rattle.job_lines.specs.Pieces.{buffersAfter, placesAfter, AllPlaced}
 use Rattle.job_lines.specs.Listing.{sentFlits, sentLine, sentLines}
 

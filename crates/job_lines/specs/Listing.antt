@@ -5,20 +5,20 @@ use mathlib.Core.List.{List, [], _∷_, _++_, map}
 use lib.Dec.{eqb}
 use lib.ListN.{length}
 use Rattle.protocol.specs.Parts.{Call}
-use Rattle.bench.specs.declared.Answer.{Answer}
+use Rattle.bench_words.specs.declared.Answer.{Answer}
 use Rattle.bench.specs.Runs.{startedWords, answerTo, afterCall}
 use Rattle.sent.specs.declared.Place.{Place}
 use Rattle.sent.specs.Places.{placesOf}
 use Rattle.messages.specs.declared.Sent.{Sent}
 use Rattle.messages.specs.Rows.{sentAt}
 use Rattle.message_flits.specs.Fields.{fieldsOf, wordsOf}
-use Rattle.flits.specs.Writing.{writeRefusal, flitsOf}
+use Rattle.flit_writing.specs.Writing.{writeRefusal, flitsOf}
 use Rattle.listing.specs.Lines.{benchLine, callLine, messageLine, endLine}
 use Rattle.job_format.specs.Job.{tilesOf, addressOf, memoryOf, callsOf}
 use Rattle.jobs.specs.Run.{benchCall}
 
 -- the flits of a message that was sent, of the line with this address; none where the flit crate refuses it, which it does for no
--- message in range (message_flits, reads-back)
+-- message of an accepted job (specs/Rules)
 unfoldable pub sentFlits : ℕ → Sent → List ℕ
 sentFlits line m =
     cond (eqb (writeRefusal (fieldsOf line (m .queue) (m .tile) (m .row)) (length (wordsOf (m .row))) 11 0) 0)

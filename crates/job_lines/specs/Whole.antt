@@ -6,8 +6,8 @@ use mathlib.Core.List.{List, [], _∷_, _++_}
 use lib.Dec.{ltb}
 use lib.ListN.{length}
 use Rattle.lists.specs.Over.{Put}
-use Rattle.bench.specs.declared.Answer.{Answer}
-use Rattle.bench.specs.Calls.{need, startOn, wordsStarted}
+use Rattle.bench_words.specs.declared.Answer.{Answer}
+use Rattle.bench_words.specs.Calls.{need, startOn, wordsStarted}
 use Rattle.bench.specs.Runs.{afterCall}
 use Rattle.listing.specs.Lines.{benchLine, endLine}
 use Rattle.job_format.specs.Job.{checkJob, accepted, headerEnd, tilesOf, addressOf, memoryOf, jobCallAt, callOf}

@@ -1,6 +1,6 @@
 // Jobs on a bench: a job's header starts one, and each of its calls is a call on it.
 ghost use mathlib.Core.Path.{_≡_};
-ghost use Rattle.bench.specs.Calls.{stepOn, answerOf, wordsAfter, startOn, wordsStarted};
+ghost use Rattle.bench_words.specs.Calls.{stepOn, answerOf, wordsAfter, startOn, wordsStarted};
 ghost use Rattle.job_format.specs.Job.{tilesOf, memoryOf, callOf};
 ghost use Rattle.jobs.specs.Run.{tagged, benchCall};
 use bench::Answer;

@@ -12,9 +12,9 @@ use lib.Seq.{length-take-le, take-all, drop-at}
 use borrow.Author.Tests.{lt-ltb, le-leb, eq-eqb}
 use Rattle.flit_words.specs.declared.Header.{Header}
 use Rattle.flit_words.specs.Words.{bits}
-use Rattle.flit_rules.specs.Table.{rowOf, extra}
+use Rattle.flit_table.specs.Table.{rowOf, extra}
 use Rattle.flit_rules.specs.Rules.{portsListed, allowed}
-use Rattle.flits.specs.Writing.{writeRefusal}
+use Rattle.flit_writing.specs.Writing.{writeRefusal}
 use Rattle.words.specs.declared.Row.{Row}
 use Rattle.protocol.specs.Parts.{Words, Right, shared, exclusive, modified, Request, loadReq, storeReq, wbGuardReq, Forward, loadFwd, storeFwd, invFwd, dataAck, Reply, wbReq, loadFwdAckS, loadFwdAckI, storeFwdAck, invFwdAck, ToMemory, loadMem, storeMem, FromMemory, loadMemAck, storeMemAck}
 use Rattle.codec.specs.Encode.{zeros, row, flag, rightNumber, encRequest, encForward, encReply, encToMemory, encFromMemory}

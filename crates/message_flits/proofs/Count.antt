@@ -7,10 +7,10 @@ use native.Mathlib.Omega.{arith}
 use lib.Dec.{eqb}
 use lib.ListN.{length, take}
 use Rattle.flit_words.specs.declared.Header.{Header}
-use Rattle.flit_rules.specs.declared.Row.{Row as Entry}
-use Rattle.flit_rules.specs.Table.{rowOf, extra}
-use Rattle.flits.specs.declared.Written.{Written}
-use Rattle.flits.specs.Writing.{writtenOf, bufferOf}
+use Rattle.flit_table.specs.declared.Row.{Row as Entry}
+use Rattle.flit_table.specs.Table.{rowOf, extra}
+use Rattle.flit_writing.specs.declared.Written.{Written}
+use Rattle.flit_writing.specs.Writing.{writtenOf, bufferOf}
 use Rattle.words.specs.declared.Row.{Row}
 use Rattle.message_flits.specs.Fields.{headerOf, fieldsOf, dataCount, wordsOf}
 

@@ -7,9 +7,9 @@ use lib.ListN.{length, take, drop}
 use lib.Seq.{drop-at, length-take-le}
 use borrow.Author.Tests.{eq-eqb}
 use Rattle.flit_words.specs.declared.Header.{Header}
-use Rattle.flit_rules.specs.Table.{rowOf, extra}
-use Rattle.flits.specs.Reading.{readOf, dataOf, accepted}
-use Rattle.flits.specs.Writing.{writeRefusal, writtenOf, bufferOf, flitsOf, over}
+use Rattle.flit_table.specs.Table.{rowOf, extra}
+use Rattle.flit_reading.specs.Reading.{readOf, dataOf, accepted}
+use Rattle.flit_writing.specs.Writing.{writeRefusal, writtenOf, bufferOf, flitsOf, over}
 use Rattle.flits.proofs.RoundTrip.{write-read, write-data}
 use Rattle.words.specs.declared.Row.{Row}
 use Rattle.message_flits.specs.Fields.{headerOf, fieldsOf, wordsOf, kept, Carried}

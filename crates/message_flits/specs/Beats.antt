@@ -3,7 +3,7 @@
 use mathlib.Core.Path.{_≡_}
 use mathlib.Core.List.{[], _∷_}
 use Rattle.protocol.specs.Beats.{Beats-statement}
-use Rattle.flits.specs.Reading.{noNode, accepted, refused, readOf}
+use Rattle.flit_reading.specs.Reading.{noNode, accepted, refused, readOf}
 
 pub record P1-to-P10 : Type 0 where
   pub p1-to-p9 : Beats-statement

@@ -10,8 +10,8 @@ use lib.Dec.{eqb, ltb, leb}
 use lib.ListN.{length, take}
 use Rattle.flit_words.specs.declared.Node.{Node}
 use Rattle.flit_words.specs.declared.Header.{Header}
-use Rattle.flit_rules.specs.declared.Row.{Row as Entry}
-use Rattle.flit_rules.specs.Table.{rowOf, extra}
+use Rattle.flit_table.specs.declared.Row.{Row as Entry}
+use Rattle.flit_table.specs.Table.{rowOf, extra}
 use Rattle.words.specs.declared.Row.{Row}
 use Rattle.protocol.specs.Parts.{Words, Request, loadReq, storeReq, wbGuardReq, Forward, loadFwd, storeFwd, invFwd, dataAck, Reply, wbReq, loadFwdAckS, loadFwdAckI, storeFwdAck, invFwdAck, ToMemory, loadMem, storeMem, FromMemory, loadMemAck, storeMemAck}
 use Rattle.codec.specs.Encode.{zeros, row, encRequest, encForward, encReply, encToMemory, encFromMemory}

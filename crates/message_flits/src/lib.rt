@@ -1,8 +1,8 @@
 // Document 01, 'Flits of a bench': the flits of a message on a queue of the bench, written by the flit crate's promise alone.
 ghost use mathlib.Core.Path.{_≡_};
 ghost use lib.ListN.{length};
-ghost use Rattle.flit_rules.specs.Table.{extra};
-ghost use Rattle.flits.specs.Writing.{writtenOf, bufferOf};
+ghost use Rattle.flit_table.specs.Table.{extra};
+ghost use Rattle.flit_writing.specs.Writing.{writtenOf, bufferOf};
 ghost use Rattle.message_flits.specs.Fields.{node, destination, source, tagOf, wordAddress, addressOf, sizeOf, sourceOf, missOf, headerOf, fieldsOf, dataCount, wordsOf};
 use flit_words::Header;
 use flit_words::Node;

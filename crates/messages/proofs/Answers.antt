@@ -19,9 +19,9 @@ use Rattle.codec.specs.Sent.{sentOn, sentTo}
 use Rattle.codec.proofs.Canonical.{home-canonical}
 use Rattle.sent.specs.Places.{placesOf, lastAt, placeOf, There, OwnerIn, HomeNames, NamesTiles}
 use Rattle.sent.proofs.Sends.{sent-there}
-use Rattle.bench.specs.Calls.{need, wellFormed, stepOn, answerOf}
-use Rattle.bench.proofs.Laid.{Laid}
-use Rattle.bench.proofs.Decoded.{Found, found, count, laid-out}
+use Rattle.bench_words.specs.Calls.{need, wellFormed, stepOn, answerOf}
+use Rattle.bench_words.proofs.Laid.{Laid}
+use Rattle.bench_words.proofs.Decoded.{Found, found, count, laid-out}
 use Rattle.messages.specs.Rows.{messageOf, sentOf, noSent}
 use Rattle.messages.proofs.Read.{read-all}
 

@@ -12,7 +12,7 @@ use Rattle.codec.specs.Encode.{encode}
 use Rattle.codec.specs.Decode.{decoded}
 use Rattle.codec.specs.Range.{InRange}
 use Rattle.codec.proofs.RangeKept.{after-in}
-use Rattle.bench.specs.Calls.{need, wellFormed, stepOn, answerOf, wordsAfter}
+use Rattle.bench_words.specs.Calls.{need, wellFormed, stepOn, answerOf, wordsAfter}
 use Rattle.bench.proofs.RoundTrip.{encodes, decoded-in}
 use Rattle.messages.proofs.Answers.{Holds, Gives, decoded-holds, call-gives}
 

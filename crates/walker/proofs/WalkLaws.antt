@@ -6,9 +6,9 @@ use native.Mathlib.Numerals.{add-one}
 use native.Mathlib.Omega.{arith}
 use lib.ListN.{length, drop, length-drop}
 use borrow.Author.Tests.{eq-eqb, ne-eqb}
-use Rattle.flits.specs.declared.Read.{Read}
-use Rattle.flits.specs.Reading.{readOf, readRefusal}
-use Rattle.flits.proofs.ReadLaws.{used-le, used-pos}
+use Rattle.flit_reading.specs.declared.Read.{Read}
+use Rattle.flit_reading.specs.Reading.{readOf, readRefusal}
+use Rattle.flit_reading.proofs.ReadLaws.{used-le, used-pos}
 use Rattle.flits.proofs.RoundCalls.{refusal-of}
 use Rattle.walker.specs.Walk.{walkFrom, walkOf}
 

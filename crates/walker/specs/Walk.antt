@@ -4,7 +4,7 @@ use mathlib.Core.List.{List}
 use Prim.Native.Nat.{ℕ, zero, suc, _+_}
 use lib.Dec.{eqb}
 use lib.ListN.{length, drop}
-use Rattle.flits.specs.Reading.{readOf}
+use Rattle.flit_reading.specs.Reading.{readOf}
 use Rattle.walker.specs.declared.Walked.{Walked}
 
 -- the place and the number of messages passed so far, and the refusal there

@@ -2,7 +2,7 @@
 // read at a place. `step` and `walk` have plain parameters, and are what other crates call.
 ghost use mathlib.Core.Path.{_≡_};
 ghost use lib.ListN.{drop};
-ghost use Rattle.flits.specs.Reading.{readOf};
+ghost use Rattle.flit_reading.specs.Reading.{readOf};
 ghost use Rattle.walker.specs.Walk.{walkOf};
 use flits::Read;
 

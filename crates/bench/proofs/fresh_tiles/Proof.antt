@@ -4,8 +4,8 @@ use native.Mathlib.Omega.{arith}
 use lib.ListN.{length}
 use borrow.Author.Needs.{needs}
 use Rattle.words.specs.Blocks.{over, tileWords}
-use Rattle.bench.specs.Post.{freshTiles}
-use Rattle.bench.proofs.Turns.{fresh-turn, fresh-end}
+use Rattle.bench.specs.Fresh.{freshTiles}
+use Rattle.bench.proofs.Started.{fresh-turn, fresh-end}
 use Rattle.bench.proofs.fresh_tiles.Statement.{statement}
 use Rattle.bench.proofs.fresh_tiles.Tie as tie
 

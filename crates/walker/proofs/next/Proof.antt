@@ -42,17 +42,17 @@ use denote.Triple.Table.{entered, cited}
 use denote.Triple.Walked.{says, Stays, stay-none, walkOf, goes-none, Walks, ends-at, walked, walk-meets}
 use denote.Exit.{yes}
 use denote.Triple.Clauses.{ensured, lasts}
-use Rattle.flits.specs.Reading.{readOf}
+use Rattle.flit_reading.specs.Reading.{readOf}
 use Rattle.walker.specs.declared.Walker.{Walker}
-use Rattle.flits.specs.declared.Read.{Read}
+use Rattle.flit_reading.specs.declared.Read.{Read}
 use Rattle.walker.proofs.Walker as T
 use Rattle.walker.proofs.Walker.Laws as T′
-use Rattle.flits.proofs.Read as S
-use Rattle.flits.proofs.Read.Laws as S′
-use Rattle.flits.proofs.reading.read_at as step
-use Rattle.flits.proofs.reading.read_at.Symbol as step-def
-use Rattle.flits.proofs.reading.read_at.Symbol.{name as #flits·read-at}
-use Rattle.flits.proofs.reading.read_at.Met as step-thm
+use Rattle.flit_reading.proofs.Read as S
+use Rattle.flit_reading.proofs.Read.Laws as S′
+use Rattle.flit_reading.proofs.reading.read_at as step
+use Rattle.flit_reading.proofs.reading.read_at.Symbol as step-def
+use Rattle.flit_reading.proofs.reading.read_at.Symbol.{name as #flits·read-at}
+use Rattle.flit_reading.proofs.reading.read_at.Met as step-thm
 use Rattle.walker.proofs.next.Key.{name as #walker·next}
 use Rattle.walker.proofs.next as next
 use Rattle.walker.proofs.next.Statement as stated

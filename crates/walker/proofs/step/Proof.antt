@@ -37,10 +37,10 @@ use denote.Triple.Table.{entered, cited}
 use denote.Triple.Walked.{says, Stays, stay-none, stay-none-slice, walkOf, goes-none, goes-none-slice, Walks, ends-at, walked, walk-meets}
 use denote.Exit.{yes}
 use denote.Triple.Clauses.{ensured, lasts}
-use Rattle.flits.specs.Reading.{readOf}
-use Rattle.flits.specs.declared.Read.{Read}
-use Rattle.flits.proofs.Read as S
-use Rattle.flits.proofs.Read.Laws as S′
+use Rattle.flit_reading.specs.Reading.{readOf}
+use Rattle.flit_reading.specs.declared.Read.{Read}
+use Rattle.flit_reading.proofs.Read as S
+use Rattle.flit_reading.proofs.Read.Laws as S′
 use Rattle.walker.specs.declared.Walker.{Walker}
 use Rattle.walker.proofs.Walker as T
 use Rattle.walker.proofs.Walker.Laws as T′

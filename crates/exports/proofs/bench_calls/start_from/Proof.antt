@@ -1,7 +1,7 @@
 use mathlib.Core.Path.{refl}
 use borrow.Author.Tests.{eq-eqb, ne-eqb}
-use Rattle.bench.specs.Calls.{answerOf, wordsStarted}
-use Rattle.exports.specs.Told.{startFrom}
+use Rattle.bench_words.specs.Calls.{answerOf, wordsStarted}
+use Rattle.exports.specs.Given.{startFrom}
 use borrow.Author.Needs.{needs}
 use Rattle.exports.proofs.bench_calls.start_from.Statement.{statement}
 use Rattle.exports.proofs.bench_calls.start_from.Tie as tie

@@ -1,5 +1,5 @@
-use Rattle.flits.specs.declared.Read.{Read}
-use Rattle.exports.specs.Told.{readWords}
+use Rattle.flit_reading.specs.declared.Read.{Read}
+use Rattle.telling.specs.Told.{readWords}
 use Rattle.exports.proofs.Laws.{said}
 use borrow.Author.Needs.{needs}
 use Rattle.exports.proofs.flit_calls.duzh_read.Statement.{statement}

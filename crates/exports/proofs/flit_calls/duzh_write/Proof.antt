@@ -1,5 +1,5 @@
-use Rattle.flits.specs.declared.Written.{Written}
-use Rattle.exports.specs.Told.{writtenWords}
+use Rattle.flit_writing.specs.declared.Written.{Written}
+use Rattle.telling.specs.Told.{writtenWords}
 use Rattle.exports.proofs.Laws.{done}
 use borrow.Author.Needs.{needs}
 use Rattle.exports.proofs.flit_calls.duzh_write.Statement.{statement}

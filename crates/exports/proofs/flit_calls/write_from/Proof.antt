@@ -1,6 +1,6 @@
 use mathlib.Core.Path.{refl}
 use borrow.Author.Tests.{eq-eqb, ne-eqb}
-use Rattle.exports.specs.Told.{writtenFrom, bufferFrom}
+use Rattle.exports.specs.Given.{writtenFrom, bufferFrom}
 use borrow.Author.Needs.{needs}
 use Rattle.exports.proofs.flit_calls.write_from.Statement.{statement}
 use Rattle.exports.proofs.flit_calls.write_from.Tie as tie

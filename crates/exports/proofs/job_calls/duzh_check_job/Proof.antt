@@ -1,5 +1,5 @@
 use Rattle.job_format.specs.declared.Checked.{Checked}
-use Rattle.exports.specs.Told.{checkedWords}
+use Rattle.telling.specs.Told.{checkedWords}
 use Rattle.exports.proofs.Laws.{said}
 use borrow.Author.Needs.{needs}
 use Rattle.exports.proofs.job_calls.duzh_check_job.Statement.{statement}

@@ -1,0 +1,5 @@
+pub mod Guard
+pub mod Laid
+pub mod Decoded
+pub mod Meets
+pub mod Ready

@@ -1,0 +1,141 @@
+-- What an accepted front message keeps, and that a refused one gives nothing. Assumes nothing.
+use mathlib.Core.Path.{_≡_, refl, sym, ap, subst}
+use mathlib.Core.Logic.{_⊎_, ⊎-elim}
+use mathlib.Core.Bool.{Bool, true, false, cond, _&&_}
+use mathlib.Core.List.{List, [], _∷_}
+use Prim.Native.Nat.{ℕ, zero, suc, _+_, _-_, _≤_, _<_}
+use native.Mathlib.Nat.{le-refl, le-of-eq}
+use native.Mathlib.Omega.{arith}
+use lib.Dec.{T, ltb, eqb}
+use lib.ListN.{length, take, drop, length-take, length-drop}
+use lib.Seq.{take-all}
+use borrow.Author.Tests.{ltb-true, eqb-true, eqb-false, ne-eqb, eq-eqb}
+use Rattle.flit_words.specs.Words.{lengthOf}
+use Rattle.flit_table.specs.Table.{extra}
+use Rattle.flit_rules.specs.Rules.{known, lengthAllowed, portsListed, reservedClear, allowed}
+use Rattle.flit_table.proofs.Tests.{and-left, and-right}
+use Rattle.flit_rules.proofs.TableLaws.{row-lengths}
+use Rattle.flit_reading.specs.declared.Read.{Read}
+use Rattle.flit_reading.specs.Reading.{lowest, refusals, flit1, rowAt, flit2, flit3, headerAt, readRefusal, accepted, refused, readOf, dataOf}
+
+-- ---- the lowest number is 0 exactly where every test holds
+
+abbrev pub test : List (ℕ × Bool) → ℕ → Bool
+test [] k = true
+test (t ∷ ts) zero = t .1
+test (t ∷ ts) (suc k) = test ts k
+
+-- every number is one: 0 says that all tests hold
+abbrev pub numbered : List (ℕ × Bool) → Bool
+numbered [] = true
+numbered (t ∷ ts) = ltb 0 (t .0) && numbered ts
+
+step : (n : ℕ) (b : Bool) (m : ℕ) → T (ltb 0 n) → cond b m n ≡ 0 → (b ≡ true) × (m ≡ 0)
+step n true m p e = (refl, e)
+step n false m p e = let h : 0 < n = lib.Dec.ltb→lt 0 n p in absurd (omega arith)
+
+pub holds : (ts : List (ℕ × Bool)) → T (numbered ts) → lowest ts ≡ 0 → (k : ℕ) → test ts k ≡ true
+holds [] p e k = refl
+holds (t ∷ ts) p e zero = step (t .0) (t .1) (lowest ts) (and-left (ltb 0 (t .0)) (numbered ts) p) e .0
+holds (t ∷ ts) p e (suc k) =
+    holds ts (and-right (ltb 0 (t .0)) (numbered ts) p) (step (t .0) (t .1) (lowest ts) (and-left (ltb 0 (t .0)) (numbered ts) p) e .1) k
+
+-- ---- reading
+
+pub record Accepted (s : List ℕ) : Type 0 where
+  pub some : 0 < length s
+  pub in-table : known (rowAt s) ≡ true
+  pub long : lengthAllowed (rowAt s) (lengthOf (flit1 s)) ≡ true
+  pub whole : lengthOf (flit1 s) < length s
+  pub ports : portsListed (rowAt s) (headerAt s) ≡ true
+  pub clear : reservedClear (rowAt s) (flit1 s) (flit2 s) (flit3 s) ≡ true
+  pub fields : allowed (rowAt s) (ltb (extra (rowAt s)) (lengthOf (flit1 s))) (headerAt s) ≡ true
+  -- the length is that of the header flits, with eight words of data or none
+  pub sizes : (lengthOf (flit1 s) ≡ extra (rowAt s)) ⊎ (lengthOf (flit1 s) ≡ extra (rowAt s) + 8)
+
+pub accepted-keeps : (s : List ℕ) → readRefusal s ≡ 0 → Accepted s
+unfolding readRefusal
+accepted-keeps s e =
+    let h = holds (refusals (rowAt s) (headerAt s) (length s) (flit1 s) (flit2 s) (flit3 s)) tt e in
+    record {
+      some = ltb-true 0 (length s) (h 0);
+      in-table = h 1;
+      long = h 2;
+      whole = ltb-true (lengthOf (flit1 s)) (length s) (h 3);
+      ports = h 4;
+      clear = h 5;
+      fields = h 6;
+      sizes = row-lengths _ (lengthOf (flit1 s)) (h 1) (h 2);
+    }
+
+-- the answer by the refusal number
+pub read-accepted : (s : List ℕ) → readRefusal s ≡ 0 → readOf s ≡ accepted (headerAt s) (lengthOf (flit1 s) + 1) (extra (rowAt s) + 1)
+unfolding readOf
+read-accepted s e = rw (eq-eqb (readRefusal s) 0 e)
+
+-- a refusal gives no fields, no count and no data
+pub read-refused : (s : List ℕ) → (readRefusal s ≡ 0 → ⊥) → readOf s ≡ refused (readRefusal s)
+unfolding readOf
+read-refused s e = rw (ne-eqb (readRefusal s) 0 e)
+
+pub data-refused : (s : List ℕ) → (readRefusal s ≡ 0 → ⊥) → dataOf s ≡ []
+unfolding dataOf
+data-refused s e = rw (read-refused s e)
+
+pub read-cases : (P : Read → Type 0) (s : List ℕ)
+    → (readRefusal s ≡ 0 → P (accepted (headerAt s) (lengthOf (flit1 s) + 1) (extra (rowAt s) + 1)))
+    → ((readRefusal s ≡ 0 → ⊥) → P (refused (readRefusal s)))
+    → P (readOf s)
+read-cases P s yes′ no′ = go (eqb (readRefusal s) 0) refl
+  where
+    go : (b : Bool) → eqb (readRefusal s) 0 ≡ b → P (readOf s)
+    go true e = let z = eqb-true (readRefusal s) 0 e in subst P (sym (read-accepted s z)) (yes′ z)
+    go false e = let z = eqb-false (readRefusal s) 0 e in subst P (sym (read-refused s z)) (no′ z)
+
+pub start-le-used : (s : List ℕ) → readOf s .start ≤ readOf s .used
+start-le-used s =
+    read-cases (λ r. r .start ≤ r .used) s
+    (λ e. ⊎-elim (λ (l : lengthOf (flit1 s) ≡ extra (rowAt s)). omega arith) (λ (l : lengthOf (flit1 s) ≡ extra (rowAt s) + 8). omega arith) (accepted-keeps s e .sizes))
+    (λ e. le-refl 0)
+
+pub used-le : (s : List ℕ) → readOf s .used ≤ length s
+used-le s = read-cases (λ r. r .used ≤ length s) s (λ e. let w = accepted-keeps s e .whole in omega arith) (λ e. omega arith)
+
+shift : (a b : ℕ) → (a + 1) - (b + 1) ≡ a - b
+shift a b = omega arith
+
+-- the data of an accepted message: the flits behind the header flits
+pub data-accepted : (s : List ℕ) → readRefusal s ≡ 0 → dataOf s ≡ take (lengthOf (flit1 s) - extra (rowAt s)) (drop (extra (rowAt s) + 1) s)
+unfolding dataOf
+data-accepted s e =
+    rw (read-accepted s e)
+    (ap (λ (n : ℕ). take n (drop (extra (rowAt s) + 1) s)) (shift (lengthOf (flit1 s)) (extra (rowAt s))))
+
+-- eight words, or none
+pub data-length : (s : List ℕ) → readRefusal s ≡ 0 → extra (rowAt s) + length (dataOf s) ≡ lengthOf (flit1 s)
+data-length s e =
+    let a = accepted-keeps s e in
+    let w = a .whole in
+    rw (data-accepted s e)
+    (simp (length-take, length-drop)
+    (⊎-elim (λ (l : lengthOf (flit1 s) ≡ extra (rowAt s)). omega arith) (λ (l : lengthOf (flit1 s) ≡ extra (rowAt s) + 8). omega arith) (a .sizes)))
+
+pub extra-le : (b : Bool) → cond b 2 0 ≤ 2
+extra-le true = le-refl 2
+extra-le false = omega arith
+
+-- from a place on: the whole rest, and nothing past the end
+pub rest-part : (s : List ℕ) (at : ℕ) → take (length s - at) (drop at s) ≡ drop at s
+rest-part s at = take-all (length s - at) (drop at s) (le-of-eq (length-drop at s))
+
+pub read-none : readOf [] ≡ refused 10
+unfolding readOf readRefusal
+read-none = refl
+
+pub data-none : dataOf [] ≡ []
+unfolding dataOf readOf readRefusal
+data-none = refl
+
+-- an accepted message uses a flit at least
+pub used-pos : (s : List ℕ) → readRefusal s ≡ 0 → 0 < readOf s .used
+used-pos s e = subst (λ (r : Read). 0 < r .used) (sym (read-accepted s e)) (omega arith)

@@ -1,0 +1,49 @@
+use Rattle.flit_reading.proofs.ReadLaws.{extra-le}
+use native.Mathlib.Omega.{arith}
+use Rattle.flit_reading.specs.Reading.{readRefusal, readOf}
+use borrow.Author.Needs.{needs}
+use Rattle.flit_reading.proofs.reading.read.Statement.{statement}
+use Rattle.flit_reading.proofs.reading.read.Tie as tie
+
+add-start : tie.Need-add-start
+add-start c =
+    let l = extra-le (c .before .before .before .before .before .before .before .before .row .result .three) in
+    omega (arith, c .header-extra .ensures)
+
+returns : tie.Need-returns
+unfolding readRefusal readOf
+returns c =
+    rw (
+      c .answer .ensures,
+      c .before .header-extra .ensures,
+      c .before .before .cut2 .ensures,
+      c .before .before .before .read-refusal .ensures,
+      c .before .before .before .before .header-of .ensures,
+      c .before .before .before .before .before .only-if2 .ensures,
+      c .before .before .before .before .before .before .flit-at3 .ensures,
+      c .before .before .before .before .before .before .before .only-if .ensures,
+      c .before .before .before .before .before .before .before .before .flit-at2 .ensures,
+      c .before .before .before .before .before .before .before .before .before .row .ensures,
+      c .before .before .before .before .before .before .before .before .before .before .cut .ensures,
+      c .before .before .before .before .before .before .before .before .before .before .before .flit-at .ensures,
+    )
+
+pub read-spec : {M : Type 1} → statement M
+read-spec =
+    tie.close
+    (tie.spec
+    (λ c κs. search needs)
+    (λ c κs. search needs)
+    (λ c κs. search needs)
+    (λ c κs. search needs)
+    (λ c κs. search needs)
+    (λ c κs. search needs)
+    (λ c κs. search needs)
+    (λ c κs. search needs)
+    (λ c κs. search needs)
+    (λ c κs. search needs)
+    (λ c. search needs)
+    (λ c κs. search needs)
+    add-start
+    (λ c κs. search needs)
+    returns)

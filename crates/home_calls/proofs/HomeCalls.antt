@@ -1,0 +1,355 @@
+-- The calls at the home, on words: what the code does is document 01's step. Assumes nothing.
+use Prim.Native.Nat.{ℕ, suc, _+_, _-_, _*_, _%_, _^_, _≤_, _<_}
+use mathlib.Core.Path.{_≡_, refl, ap, sym, _∙_, subst}
+use mathlib.Core.Bool.{Bool, cond, true, false, _&&_, false≢true}
+use mathlib.Core.List.{List, [], _∷_, _++_}
+use mathlib.Core.Option.{Option, some, none}
+use native.Mathlib.Omega.{arith}
+use native.Mathlib.Nat.{mod-lt}
+use lib.Dec.{eqb, ltb}
+use lib.ListN.{length, getD, set, drop, length-set}
+use lib.Seq.{getD-set-same, getD-set-other}
+use borrow.Author.Tests.{lt-ltb, le-ltb, eqb-true, eqb-false, ne-eqb}
+use Rattle.bits.specs.Mask.{has}
+use Rattle.words.specs.declared.Row.{Row}
+use Rattle.words.specs.declared.Pair.{Pair}
+use Rattle.words.specs.declared.TileBlock.{TileBlock}
+use Rattle.words.specs.declared.HomeBlock.{HomeBlock}
+use Rattle.words.specs.Blocks as blocks
+use Rattle.words.specs.Blocks.{over, homeAt, homeWords, tileWords, HomeFull, TileFull}
+use Rattle.protocol.specs.Parts.{Words, Queue, Request, Forward, Reply, ToMemory, FromMemory, Tile, tileOf, Line, Home, idle, awaitingLoad, awaitingOwner, awaitingAcks, awaitingStore, reading, writing, request, eviction, clearForStore, clearForEviction, Bench, benchOf, Call, taking, fromTile, memoryStep, memoryAck, homeEviction, Result, refused, accepted}
+use Rattle.protocol.specs.Bench as rules
+use Rattle.protocol.specs.Bench.{freshTile, tileAt, step, front, rest, noc1, noc3, popNoc1, popNoc3, fromTileOn, takingOn, takeFrom, arbitrate}
+use Rattle.codec.specs.Encode.{encRequest, encForward, encReply, encQueue, encTile, encHome, encode, phaseNumber}
+use Rattle.codec.specs.Decode.{decTiles, decoded, benchFrom, decHome, decLine, decQueue, decToMemory, decFromMemory, isSet}
+use Rattle.codec.proofs.Canonical.{homeFrom, home-canonical}
+use Rattle.tile_steps.specs.Steps.{room, pop, headed}
+use Rattle.tile_steps.proofs.Rules.{rest-queue}
+use Rattle.home_parts.specs.declared.HomeStep.{HomeStep}
+use Rattle.home_parts.specs.Numbers as numbers
+use Rattle.home_steps.specs.Rules.{HomeResult, spread, encStep, encFront, Sends, HomeIn, LineIn, takenHome, acceptedHome, steppedHome, ackedHome, evictedHome}
+use Rattle.home_steps.proofs.Steps.{first-row, take-is, accept-is, step-is, ack-is, evict-is}
+use Rattle.home_steps.proofs.Spread.{take-spread, accept-spread, step-spread, ack-spread, evict-spread}
+use Rattle.home_steps.proofs.Sends.{take-sends, accept-sends, step-sends, ack-sends, evict-sends}
+use Rattle.home_steps.proofs.Range.{line-in, home-in}
+use Rattle.bench_words.specs.declared.Answer.{Answer}
+use Rattle.bench_words.specs.Calls.{need, wellFormed, stepOn, answerOf, wordsAfter, refusal, homeCall}
+use Rattle.bench_words.specs.declared.Survey.{Survey}
+use Rattle.bench_words.specs.Survey.{surveyOf}
+use Rattle.bench_words.proofs.Guard.{survey-ok}
+use Rattle.bench_words.proofs.Ready.{survey-ready}
+use Rattle.posts.specs.Post.{rooms, Committed}
+use Rattle.home_calls.specs.Taken.{homeStepOn, popped1, popped3, choice, chosen}
+use Rattle.bench_words.proofs.Laid.{Laid, laid-tile, write-tile}
+use Rattle.bench_words.proofs.Decoded.{Found, found, count, laid-out}
+use Rattle.bench_words.proofs.Meets.{Meets}
+use Rattle.posts.proofs.Posted.{allRoom, rooms-tiles}
+use Rattle.posts.proofs.Commits.{committed}
+use Rattle.home_calls.proofs.Searched.{optionOf, searched, choice-below, ready-chosen}
+
+-- a home in another phase than 0 is not idle
+waiting : (p : ℕ) (x : Row) (q u : ℕ) → eqb p 0 ≡ false → (t k : ℕ) (mem : Words) (o : Queue ToMemory) (b : Queue FromMemory) (us : List Tile) (m : ℕ) → step taking (benchOf (decHome m p x q u) t k mem o b us) ≡ refused 6
+unfolding step takingOn decHome
+waiting p x q u e t k mem o b us m = rw e (go (eqb p 1) (eqb p 2) (eqb p 3) (eqb p 4) (eqb p 5) (eqb p 6) (eqb p 7))
+  where
+    go : (b1 b2 b3 b4 b5 b6 b7 : Bool) →
+        takingOn (benchOf (cond b1 (awaitingLoad (q % m) reading (decLine m x)) (cond b2 (awaitingLoad (q % m) writing (decLine m x)) (cond b3 (awaitingOwner (isSet (x .n1)) (x .words) (x .n3 % m) (request (q % m) reading))
+        (cond b4 (awaitingOwner (isSet (x .n1)) (x .words) (x .n3 % m) (request (q % m) writing)) (cond b5 (awaitingOwner (isSet (x .n1)) (x .words) (x .n3 % m) eviction)
+        (cond b6 (awaitingAcks (isSet (x .n1)) (x .words) (x .n3 % 2 ^ m) (u % 2 ^ m) (clearForStore (q % m))) (cond b7 (awaitingAcks (isSet (x .n1)) (x .words) (x .n3 % 2 ^ m) (u % 2 ^ m) clearForEviction) (awaitingStore (decLine m x)))))))))
+        t k mem o b us) ≡ refused 6
+    go true b2 b3 b4 b5 b6 b7 = refl
+    go false true b3 b4 b5 b6 b7 = refl
+    go false false true b4 b5 b6 b7 = refl
+    go false false false true b5 b6 b7 = refl
+    go false false false false true b6 b7 = refl
+    go false false false false false true b7 = refl
+    go false false false false false false true = refl
+    go false false false false false false false = refl
+
+-- what words are read as, part by part
+module _ (l : List ℕ) (h : wellFormed l ≡ true) where
+  abbrev n : ℕ
+  n = getD l 0 0
+
+  abbrev ts : List Tile
+  ts = decTiles l 74 n
+
+  abbrev r : List ℕ
+  r = drop (need n) l
+
+  abbrev H : HomeBlock
+  H = homeAt l
+
+  abbrev home : Home
+  home = decHome n (H .phase) (H .line) (H .control .n2) (H .control .n3)
+
+  abbrev last : ℕ
+  last = H .control .n0 % n
+
+  abbrev marks : ℕ
+  marks = H .control .n1 % 2 ^ n
+
+  abbrev memory : Words
+  memory = H .control .words
+
+  abbrev out : Queue ToMemory
+  out = decQueue decToMemory (H .out)
+
+  abbrev back : Queue FromMemory
+  back = decQueue decFromMemory (H .back)
+
+  read-as : decoded l ≡ benchOf home last marks memory out back ts
+  unfolding decoded benchFrom homeAt
+  read-as = refl
+
+  block : H ≡ encHome n home last marks memory out back
+  unfolding homeAt
+  block = sym (home-canonical (homeAt l) (found l h .home))
+
+  some-tile : 0 < n
+  some-tile = found l h .some
+
+  tiles-counted : length ts ≡ n
+  tiles-counted = count l 74 n
+
+  laid : Laid l H ts r
+  laid = laid-out l (found l h)
+
+  room-as : (to : ℕ) → rooms true l 74 0 to n ≡ allRoom ts 0 to n
+  room-as to = rooms-tiles H r to n 0 true l ts laid (omega (arith, tiles-counted))
+
+  -- memory step, memory ack, home eviction
+  result : ℕ → HomeResult
+  result c = cond (eqb c 0) (steppedHome home last marks memory out back) (cond (eqb c 1) (ackedHome home last marks memory out back) (evictedHome n home last marks memory out back))
+
+  in-range : HomeIn n home
+  in-range = home-in n (H .phase) (H .line) (H .control .n2) (H .control .n3) some-tile
+
+  result-sends : (c : ℕ) → Sends n (result c)
+  unfolding result
+  result-sends c = go (eqb c 0) (eqb c 1)
+    where
+      go : (a b : Bool) → Sends n (cond a (steppedHome home last marks memory out back) (cond b (ackedHome home last marks memory out back) (evictedHome n home last marks memory out back)))
+      go true b = step-sends n home last marks memory out back
+      go false true = ack-sends n home in-range last marks memory out back
+      go false false = evict-sends n home in-range last marks memory out back
+
+  abbrev B : HomeBlock
+  B = encHome n home last marks memory out back
+
+  result-is : (c : ℕ) → homeStepOn c H ≡ encStep n B (result c)
+  unfolding result homeStepOn
+  result-is c = ap (homeStepOn c) block ∙ go (eqb c 0) (eqb c 1)
+    where
+      go : (a b : Bool) → cond a (numbers.memoryStep B) (cond b (numbers.memoryAck B) (numbers.evictLine B))
+          ≡ encStep n B (cond a (steppedHome home last marks memory out back) (cond b (ackedHome home last marks memory out back) (evictedHome n home last marks memory out back)))
+      go true b = step-is n home last marks memory out back
+      go false true = ack-is n home last marks memory out back
+      go false false = evict-is n (found l h .most) home in-range last marks memory out back
+
+  result-step : (c : ℕ) → step (homeCall c) (decoded l) ≡ spread 0 (result c) ts
+  unfolding result homeCall step
+  result-step c = ap (step (homeCall c)) read-as ∙ go (eqb c 0) (eqb c 1)
+    where
+      go : (a b : Bool) → step (cond a memoryStep (cond b memoryAck homeEviction)) (benchOf home last marks memory out back ts)
+          ≡ spread 0 (cond a (steppedHome home last marks memory out back) (cond b (ackedHome home last marks memory out back) (evictedHome n home last marks memory out back))) ts
+      go true b = step-spread home last marks memory out back ts
+      go false true = ack-spread home last marks memory out back ts
+      go false false = evict-spread home last marks memory out back ts ∙ ap (λ (z : ℕ). spread 0 (evictedHome z home last marks memory out back) ts) tiles-counted
+
+  pub home-done : (c : ℕ) (s : HomeStep) → s ≡ homeStepOn c H → (a : Answer) (m : List ℕ) → Committed l l n 0 s (Unit {0}) a m → Meets l (stepOn l (homeCall c)) a m
+  home-done c s is a m made =
+      committed l l (homeCall c) 0 s (Unit {0}) a m h (result c) B ts tiles-counted (λ _. laid) (result-sends c) (is ∙ result-is c) (result-step c) (room-as (s .to)) made
+
+  -- a tile without the front of a queue
+  pop1 : (x : Tile) → popped1 (encTile x) ≡ encTile (popNoc1 x)
+  unfolding popped1 encTile popNoc1
+  pop1 (tileOf c p q1 q2 q3) = ap (λ (z : Pair). headed (encTile (tileOf c p q1 q2 q3) .head) z (encQueue encForward q2) (encQueue encReply q3)) (rest-queue encRequest q1)
+
+  pop3 : (x : Tile) → popped3 (encTile x) ≡ encTile (popNoc3 x)
+  unfolding popped3 encTile popNoc3
+  pop3 (tileOf c p q1 q2 q3) = ap (λ (z : Pair). headed (encTile (tileOf c p q1 q2 q3) .head) (encQueue encRequest q1) (encQueue encForward q2) z) (rest-queue encReply q3)
+
+  front1 : (x : Tile) → encTile x .noc1 .a ≡ encFront encRequest (front (noc1 x))
+  unfolding encTile noc1
+  front1 (tileOf c p q1 q2 q3) = first-row encRequest q1
+
+  front3 : (x : Tile) → encTile x .noc3 .a ≡ encFront encReply (front (noc3 x))
+  unfolding encTile noc3
+  front3 (tileOf c p q1 q2 q3) = first-row encReply q3
+
+  same2-1 : (x : Tile) → encTile (popNoc1 x) .noc2 ≡ encTile x .noc2
+  unfolding encTile popNoc1
+  same2-1 (tileOf c p q1 q2 q3) = refl
+
+  same2-3 : (x : Tile) → encTile (popNoc3 x) .noc2 ≡ encTile x .noc2
+  unfolding encTile popNoc3
+  same2-3 (tileOf c p q1 q2 q3) = refl
+
+  -- the control row holds what it is read as
+  last-is : H .control .n0 ≡ last
+  unfolding encHome
+  last-is = ap (λ (z : HomeBlock). z .control .n0) block
+
+  marks-are : H .control .n1 ≡ marks
+  unfolding encHome
+  marks-are = ap (λ (z : HomeBlock). z .control .n1) block
+
+  pub last-below : H .control .n0 < n
+  last-below = rw last-is (mod-lt (H .control .n0) some-tile)
+
+  chosen-by-rules : arbitrate last marks ts ≡ optionOf (choice l (H .control .n1) (H .control .n0) n)
+  chosen-by-rules =
+      searched l H ts r laid marks last n tiles-counted (found l h .most) (mod-lt (H .control .n0) some-tile)
+      ∙ ap (λ (z : ℕ). optionOf (choice l z last n)) (sym marks-are) ∙ ap (λ (z : ℕ). optionOf (choice l (H .control .n1) z n)) (sym last-is)
+
+  pub found-here : (t : ℕ) → t < n → t ≡ choice l (H .control .n1) (H .control .n0) n → arbitrate last marks ts ≡ some t
+  unfolding optionOf
+  found-here t b e = chosen-by-rules ∙ ap optionOf (sym e) ∙ rw (lt-ltb t 64 (omega (arith, found l h .most)))
+
+  pub found-none : 64 ≤ choice l (H .control .n1) (H .control .n0) n → arbitrate last marks ts ≡ none
+  unfolding optionOf
+  found-none b = chosen-by-rules ∙ rw (le-ltb (choice l (H .control .n1) (H .control .n0) n) 64 b)
+
+  pub chosen-below : choice l (H .control .n1) (H .control .n0) n < 64 → choice l (H .control .n1) (H .control .n0) n < n
+  chosen-below = choice-below l (H .control .n1) (H .control .n0) n last-below
+
+  refused-by : (c : Call) (k : ℕ) → step c (decoded l) ≡ refused k → Meets l (stepOn l c) (refusal k) l
+  unfolding stepOn answerOf wordsAfter
+  refused-by c k e = rw (h, e) (record { answer = refl; words = refl })
+
+  idle-home : H .phase ≡ 0 → home ≡ idle (decLine n (H .line))
+  unfolding decHome
+  idle-home z = rw z
+
+  -- 7: no tile can be taken
+  pub none-taken : H .phase ≡ 0 → 64 ≤ choice l (H .control .n1) (H .control .n0) n → Meets l (stepOn l taking) (refusal 7) l
+  unfolding step takingOn takeFrom
+  none-taken z b =
+      refused-by taking 7 (ap (step taking) (read-as ∙ ap (λ (q : Home). benchOf q last marks memory out back ts) (idle-home z))
+      ∙ ap (λ (o : Option ℕ). takeFrom o (decLine n (H .line)) marks memory out back ts) (found-none b))
+
+  -- 6: home not idle
+  pub not-idle : (H .phase ≡ 0 → ⊥) → Meets l (stepOn l taking) (refusal 6) l
+  not-idle wrong = refused-by taking 6 (ap (step taking) read-as ∙ waiting (H .phase) (H .line) (H .control .n2) (H .control .n3) (ne-eqb (H .phase) 0 wrong) last marks memory out back ts n)
+
+  -- 2: no such tile
+  pub no-from : (t : ℕ) → n ≤ t → Meets l (stepOn l (fromTile t)) (refusal 2) l
+  unfolding step fromTileOn
+  no-from t b = refused-by (fromTile t) 2 (ap (step (fromTile t)) read-as ∙ rw (le-ltb t (length ts) (rw tiles-counted b)))
+
+  module _ (t : ℕ) (below : t < n) where
+    abbrev x : Tile
+    x = tileAt ts t
+
+    inside : t < length ts
+    inside = rw tiles-counted below
+
+    abbrev place : ℕ
+    place = 74 + 84 * t
+
+    tile-block : blocks.tileAt l place ≡ encTile x
+    tile-block = laid-tile l H ts r laid t inside
+
+    -- the same room on NoC2 with tile t replaced by one with the same NoC2
+    room-with : (y : Tile) → encTile y .noc2 ≡ encTile x .noc2 → (to j i : ℕ) → allRoom (set ts t y) i to j ≡ allRoom ts i to j
+    unfolding allRoom
+    room-with y e to ℕ.zero i = refl
+    room-with y e to (suc j) i = ap (λ (z : Pair). cond (has to i) (room z) true && allRoom (set ts t y) (suc i) to j) (here (eqb i t) refl) ∙ ap (λ (z : Bool). cond (has to i) (room (encTile (tileAt ts i) .noc2)) true && z) (room-with y e to j (suc i))
+      where
+        here : (b : Bool) → eqb i t ≡ b → encTile (tileAt (set ts t y) i) .noc2 ≡ encTile (tileAt ts i) .noc2
+        here true q =
+            let z : i ≡ t = eqb-true i t q in
+            rw z (ap (λ (u : Tile). encTile u .noc2) (getD-set-same ts t y freshTile inside) ∙ e)
+        here false q = ap (λ (u : Tile). encTile u .noc2) (getD-set-other ts t i y freshTile (eqb-false i t q))
+
+    laid-with : (y : Tile) (b : TileBlock) → b ≡ encTile y → TileFull b → Laid (over l place (tileWords b)) H (set ts t y) r
+    laid-with y b e f = subst (λ (z : TileBlock). Laid (over l place (tileWords z)) H (set ts t y) r) (sym e) (write-tile l H ts r laid t y inside (subst TileFull e f))
+
+    from-step : step (fromTile t) (decoded l) ≡ rules.accept t (front (noc3 x)) home last marks memory out back (set ts t (popNoc3 x))
+    unfolding step fromTileOn
+    from-step = ap (step (fromTile t)) read-as ∙ rw (lt-ltb t (length ts) inside)
+
+    -- delivery from tile t
+    pub from-done : (s : HomeStep) → s ≡ numbers.accept H t (blocks.tileAt l place .noc3 .a) → (b : TileBlock) → b ≡ popped3 (blocks.tileAt l place) → (a : Answer) (m : List ℕ) →
+        Committed l (over l place (tileWords b)) n 0 s (TileFull b) a m → Meets l (stepOn l (fromTile t)) a m
+    from-done s is b bs a m made =
+        let y : Tile = popNoc3 x in
+        let e : b ≡ encTile y = bs ∙ ap popped3 tile-block ∙ pop3 x in
+        let numbers-are : s ≡ encStep n B (acceptedHome t (front (noc3 x)) home last marks memory out back) =
+        is ∙ ap (λ (z : TileBlock). numbers.accept H t (z .noc3 .a)) tile-block ∙ ap (numbers.accept H t) (front3 x) ∙ ap (λ (z : HomeBlock). numbers.accept z t (encFront encReply (front (noc3 x)))) block
+        ∙ accept-is n t (found l h .most) below (front (noc3 x)) home in-range last marks memory out back in
+        let by-step : step (fromTile t) (decoded l) ≡ spread 0 (acceptedHome t (front (noc3 x)) home last marks memory out back) (set ts t y) = from-step ∙ accept-spread t (front (noc3 x)) home last marks memory out back (set ts t y) in
+        committed l (over l place (tileWords b)) (fromTile t) 0 s (TileFull b) a m h (acceptedHome t (front (noc3 x)) home last marks memory out back) B (set ts t y) (length-set ts t y ∙ tiles-counted) (laid-with y b e)
+        (accept-sends n t (front (noc3 x)) home in-range last marks memory out back) numbers-are by-step (room-as (s .to) ∙ sym (room-with y (same2-3 x) (s .to) n 0)) made
+
+    -- taking of tile t, where it is the one found
+    abbrev line : Line
+    line = decLine n (H .line)
+
+    module _ (idle-now : H .phase ≡ 0) (chosen : t ≡ choice l (H .control .n1) (H .control .n0) n) where
+      home-idle : home ≡ idle line
+      unfolding decHome
+      home-idle = rw idle-now
+
+      block-idle : H ≡ encHome n (idle line) last marks memory out back
+      block-idle = block ∙ ap (λ (z : Home). encHome n z last marks memory out back) home-idle
+
+      take-step : step taking (decoded l) ≡ rules.take t (front (noc1 x)) line marks memory out back (set ts t (popNoc1 x))
+      unfolding step takingOn takeFrom
+      take-step = ap (step taking) (read-as ∙ ap (λ (z : Home). benchOf z last marks memory out back ts) home-idle) ∙ ap (λ (o : Option ℕ). takeFrom o line marks memory out back ts) (found-here t below chosen)
+
+      pub take-done : (s : HomeStep) → s ≡ numbers.take H t (blocks.tileAt l place .noc1 .a) → (b : TileBlock) → b ≡ popped1 (blocks.tileAt l place) → (a : Answer) (m : List ℕ) →
+          Committed l (over l place (tileWords b)) n t s (TileFull b) a m → Meets l (stepOn l taking) a m
+      take-done s is b bs a m made =
+          let y : Tile = popNoc1 x in
+          let e : b ≡ encTile y = bs ∙ ap popped1 tile-block ∙ pop1 x in
+          let numbers-are : s ≡ encStep n (encHome n (idle line) last marks memory out back) (takenHome n t (front (noc1 x)) line marks memory out back) =
+          is ∙ ap (λ (z : TileBlock). numbers.take H t (z .noc1 .a)) tile-block ∙ ap (numbers.take H t) (front1 x) ∙ ap (λ (z : HomeBlock). numbers.take z t (encFront encRequest (front (noc1 x)))) block-idle
+          ∙ take-is n t (found l h .most) below (front (noc1 x)) line (line-in n (H .line) some-tile) last marks memory out back in
+          let cnt : length (set ts t y) ≡ n = length-set ts t y ∙ tiles-counted in
+          let by-step : step taking (decoded l) ≡ spread t (takenHome n t (front (noc1 x)) line marks memory out back) (set ts t y) =
+          take-step ∙ take-spread t (front (noc1 x)) line marks memory out back (set ts t y) ∙ ap (λ (z : ℕ). spread t (takenHome z t (front (noc1 x)) line marks memory out back) (set ts t y)) cnt in
+          committed l (over l place (tileWords b)) taking t s (TileFull b) a m h (takenHome n t (front (noc1 x)) line marks memory out back) (encHome n (idle line) last marks memory out back) (set ts t y) cnt (laid-with y b e)
+          (take-sends n t below (front (noc1 x)) line (line-in n (H .line) some-tile) marks memory out back) numbers-are by-step (room-as (s .to) ∙ sym (room-with y (same2-1 x) (s .to) n 0)) made
+
+-- what the code's survey tells of the words
+pub formed : (l : List ℕ) (s : Survey) (b : Bool) → s ≡ surveyOf l → s .ok ≡ b → wellFormed l ≡ b
+formed l s b e h = sym (survey-ok l) ∙ sym (ap (λ (z : Survey). z .ok) e) ∙ h
+
+-- the same, as the code has them: with the blocks that it read
+module _ (l : List ℕ) (h : wellFormed l ≡ true) (hb : HomeBlock) (eh : hb ≡ homeAt l) where
+  pub last-small : hb .control .n0 < getD l 0 0
+  last-small = rw eh (last-below l h)
+
+  module _ (t : ℕ) (tb : TileBlock) (et : tb ≡ blocks.tileAt l (74 + 84 * t)) (s : HomeStep) (b : TileBlock) (a : Answer) (m : List ℕ) where
+    pub from-call : t < getD l 0 0 → s ≡ numbers.accept hb t (tb .noc3 .a) → b ≡ popped3 tb → Committed l (over l (74 + 84 * t) (tileWords b)) (getD l 0 0) 0 s (TileFull b) a m → Meets l (stepOn l (fromTile t)) a m
+    from-call below is bs made =
+        from-done l h t below s (is ∙ ap (λ (z : TileBlock). numbers.accept hb t (z .noc3 .a)) et ∙ ap (λ (z : HomeBlock). numbers.accept z t (blocks.tileAt l (74 + 84 * t) .noc3 .a)) eh) b (bs ∙ ap popped3 et) a m made
+
+    pub take-call : hb .phase ≡ 0 → t ≡ choice l (hb .control .n1) (hb .control .n0) (getD l 0 0) → t < 64 → s ≡ numbers.take hb t (tb .noc1 .a) → b ≡ popped1 tb →
+        Committed l (over l (74 + 84 * t) (tileWords b)) (getD l 0 0) t s (TileFull b) a m → Meets l (stepOn l taking) a m
+    take-call z e q is bs made =
+        let e′ : t ≡ choice l (homeAt l .control .n1) (homeAt l .control .n0) (getD l 0 0) = e ∙ ap (λ (y : HomeBlock). choice l (y .control .n1) (y .control .n0) (getD l 0 0)) eh in
+        let below : t < getD l 0 0 = subst (λ (y : ℕ). y < getD l 0 0) (sym e′) (chosen-below l h (subst (λ (y : ℕ). y < 64) e′ q)) in
+        take-done l h t below (sym (ap (λ (y : HomeBlock). y .phase) eh) ∙ z) e′ s (is ∙ ap (λ (y : TileBlock). numbers.take hb t (y .noc1 .a)) et ∙ ap (λ (y : HomeBlock). numbers.take y t (blocks.tileAt l (74 + 84 * t) .noc1 .a)) eh) b
+        (bs ∙ ap popped1 et) a m made
+
+  -- the tile that the code chooses, by the survey s
+  pub chosen-by : (s : Survey) → s ≡ surveyOf l → (t : ℕ) → t ≡ chosen (s .ready) (hb .control .n0) → t ≡ choice l (hb .control .n1) (hb .control .n0) (getD l 0 0)
+  chosen-by s es t e =
+      e ∙ ap (λ (z : Survey). chosen (z .ready) (hb .control .n0)) es ∙ ap (λ (z : ℕ). chosen z (hb .control .n0)) (survey-ready l h)
+      ∙ ready-chosen l (homeAt l .control .n1) (getD l 0 0) (hb .control .n0) (found l h .most) last-small ∙ ap (λ (z : HomeBlock). choice l (z .control .n1) (hb .control .n0) (getD l 0 0)) (sym eh)
+
+  pub chosen-small : (t : ℕ) → t ≡ choice l (hb .control .n1) (hb .control .n0) (getD l 0 0) → t < 64 → t < getD l 0 0
+  chosen-small t e q =
+      let e′ : t ≡ choice l (homeAt l .control .n1) (homeAt l .control .n0) (getD l 0 0) = e ∙ ap (λ (y : HomeBlock). choice l (y .control .n1) (y .control .n0) (getD l 0 0)) eh in
+      subst (λ (y : ℕ). y < getD l 0 0) (sym e′) (chosen-below l h (subst (λ (y : ℕ). y < 64) e′ q))
+
+  pub nobody-call : hb .phase ≡ 0 → (t : ℕ) → t ≡ choice l (hb .control .n1) (hb .control .n0) (getD l 0 0) → 64 ≤ t → Meets l (stepOn l taking) (refusal 7) l
+  nobody-call z t e q =
+      let e′ : t ≡ choice l (homeAt l .control .n1) (homeAt l .control .n0) (getD l 0 0) = e ∙ ap (λ (y : HomeBlock). choice l (y .control .n1) (y .control .n0) (getD l 0 0)) eh in
+      none-taken l h (sym (ap (λ (y : HomeBlock). y .phase) eh) ∙ z) (subst (λ (y : ℕ). 64 ≤ y) e′ q)
+
+  pub busy-call : (hb .phase ≡ 0 → ⊥) → Meets l (stepOn l taking) (refusal 6) l
+  busy-call wrong = not-idle l h (λ z. wrong (ap (λ (y : HomeBlock). y .phase) eh ∙ z))

@@ -1,0 +1,47 @@
+use Prim.Native.Nat.{_<_}
+use mathlib.Core.Path.{refl, ap, sym, subst, _∙_}
+use native.Mathlib.Omega.{arith}
+use Rattle.words.specs.declared.HomeBlock.{HomeBlock}
+use Rattle.words.specs.declared.TileBlock.{TileBlock}
+use Rattle.bench_words.specs.Calls.{homeCall}
+use Rattle.home_calls.specs.Taken.{homeStepOn, popped1, popped3, choice}
+use Rattle.bench_words.proofs.Decoded.{found}
+use Rattle.bench_words.proofs.Meets.{malformed}
+use Rattle.home_calls.proofs.HomeCalls.{home-done}
+use borrow.Author.Needs.{needs}
+use Rattle.home_calls.proofs.at_home.Statement.{statement}
+use Rattle.home_calls.proofs.at_home.Tie as tie
+
+slice-read-n : tie.Need-slice-read-n
+slice-read-n c = omega (arith, found _ (sym (c .before .before .well-formed .ensures) ∙ c .before .if1 .taken) .long)
+
+read-home-requires : tie.Need-read-home-requires
+read-home-requires c κs = omega (arith, found _ (sym (c .before .before .before .well-formed .ensures) ∙ c .before .before .if1 .taken) .long)
+
+commit-requires : tie.Need-commit-requires
+commit-requires c κs = (found _ (sym (c .before .before .before .before .before .before .well-formed .ensures) ∙ c .before .before .before .before .before .if1 .taken) .enough, found _ (sym (c .before .before .before .before .before .before .well-formed .ensures) ∙ c .before .before .before .before .before .if1 .taken) .most)
+
+returns : tie.Need-returns
+returns c =
+    let m = home-done (c .before .before .before .before .before .before .before .before .before .before .before .before .args .w .now) (sym (c .before .before .before .before .before .before .before .before .before .well-formed .ensures) ∙ c .before .before .before .before .before .before .before .before .if1 .taken) (c .before .before .before .before .before .before .before .before .before .before .before .before .args .c) (c .before .before .before .before .home-step .result) (c .before .before .before .before .home-step .ensures ∙ ap (homeStepOn (c .before .before .before .before .before .before .before .before .before .before .before .before .args .c)) (c .before .before .before .before .before .read-home .ensures)) _ _ (c .before .before .commit .ensures) in
+    (m .answer, m .words)
+
+returns-2 : tie.Need-returns-2
+returns-2 c =
+    let m = malformed (c .before .before .before .before .before .args .w .now) (homeCall (c .before .before .before .before .before .args .c)) (sym (c .before .before .well-formed .ensures) ∙ c .before .if1 .left) in
+    (c .refused .ensures ∙ m .answer, m .words)
+
+pub at-home-spec : {M : Type 1} → statement M
+at-home-spec =
+    tie.close
+    (tie.spec
+    (λ c κs. search needs)
+    slice-read-n
+    read-home-requires
+    (λ c κs. search needs)
+    commit-requires
+    (λ c κs. search needs)
+    (λ c. search needs)
+    returns
+    (λ c. search needs)
+    returns-2)

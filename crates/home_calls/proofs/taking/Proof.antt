@@ -1,0 +1,116 @@
+use Prim.Native.Nat.{_<_}
+use mathlib.Core.Path.{_≡_, _∙_}
+use mathlib.Core.Bool.{true, false}
+use native.Mathlib.Omega.{arith}
+use borrow.Author.Needs.{needs}
+use lib.ListN.{getD}
+use Rattle.protocol.specs.Parts.{taking}
+use Rattle.bench_words.specs.Calls.{wellFormed}
+use Rattle.bench_words.proofs.Decoded.{found}
+use Rattle.bench_words.proofs.Meets.{malformed}
+use Rattle.home_calls.proofs.HomeCalls.{formed, last-small, chosen-by, chosen-small, take-call, nobody-call, busy-call}
+use Rattle.home_calls.proofs.taking.Statement.{statement}
+use Rattle.home_calls.proofs.taking.Tie as tie
+
+slice-read-n : tie.Need-slice-read-n
+slice-read-n c =
+    let l = c .before .before .before .before .before .args .w .now in
+    let wf : wellFormed l ≡ true = formed l (c .before .before .survey-of .result) true (c .before .before .survey-of .ensures) (c .before .if1 .taken) in
+    omega (arith, found l wf .long)
+
+read-home-requires : tie.Need-read-home-requires
+read-home-requires c κs =
+    let l = c .before .before .before .before .before .before .args .w .now in
+    let wf : wellFormed l ≡ true = formed l (c .before .before .before .survey-of .result) true (c .before .before .before .survey-of .ensures) (c .before .before .if1 .taken) in
+    omega (arith, found l wf .long)
+
+choose-requires : tie.Need-choose-requires
+choose-requires c κs =
+    let l = c .before .before .before .before .before .before .before .before .before .before .args .w .now in
+    let wf : wellFormed l ≡ true = formed l (c .before .before .before .before .before .before .before .survey-of .result) true (c .before .before .before .before .before .before .before .survey-of .ensures) (c .before .before .before .before .before .before .if1 .taken) in
+    let hb = c .before .before .before .read-home .result in
+    let eh = c .before .before .before .read-home .ensures in
+    omega (arith, last-small l wf hb eh, found l wf .most)
+
+read-tile-requires : tie.Need-read-tile-requires
+read-tile-requires c κs =
+    let l = c .before .before .before .before .before .before .before .before .before .before .before .before .before .args .w .now in
+    let wf : wellFormed l ≡ true = formed l (c .before .before .before .before .before .before .before .before .before .before .survey-of .result) true (c .before .before .before .before .before .before .before .before .before .before .survey-of .ensures) (c .before .before .before .before .before .before .before .before .before .if1 .taken) in
+    let hb = c .before .before .before .before .before .before .read-home .result in
+    let eh = c .before .before .before .before .before .before .read-home .ensures in
+    let t = c .before .before .choose .result in
+    let et = chosen-by l wf hb eh (c .before .before .before .before .before .before .before .before .before .before .survey-of .result) (c .before .before .before .before .before .before .before .before .before .before .survey-of .ensures) t (c .before .before .choose .ensures) in
+    omega (arith, found l wf .enough, chosen-small l wf hb eh t et (c .before .if3 .taken))
+
+commit-with-requires : tie.Need-commit-with-requires
+commit-with-requires c κs =
+    let l = c .before .before .before .before .before .before .before .before .before .before .before .before .before .before .before .before .before .before .args .w .now in
+    let wf : wellFormed l ≡ true = formed l (c .before .before .before .before .before .before .before .before .before .before .before .before .before .before .before .survey-of .result) true (c .before .before .before .before .before .before .before .before .before .before .before .before .before .before .before .survey-of .ensures) (c .before .before .before .before .before .before .before .before .before .before .before .before .before .before .if1 .taken) in
+    let hb = c .before .before .before .before .before .before .before .before .before .before .before .read-home .result in
+    let eh = c .before .before .before .before .before .before .before .before .before .before .before .read-home .ensures in
+    let t = c .before .before .before .before .before .before .before .choose .result in
+    let et = chosen-by l wf hb eh (c .before .before .before .before .before .before .before .before .before .before .before .before .before .before .before .survey-of .result) (c .before .before .before .before .before .before .before .before .before .before .before .before .before .before .before .survey-of .ensures) t (c .before .before .before .before .before .before .before .choose .ensures) in
+    (found l wf .enough, found l wf .most, omega (arith, found l wf .enough, chosen-small l wf hb eh t et (c .before .before .before .before .before .before .if3 .taken)))
+
+returns : tie.Need-returns
+returns c =
+    let l = c .before .before .before .before .before .before .before .before .before .before .before .before .before .before .before .before .before .before .before .before .before .args .w .now in
+    let wf : wellFormed l ≡ true = formed l (c .before .before .before .before .before .before .before .before .before .before .before .before .before .before .before .before .before .before .survey-of .result) true (c .before .before .before .before .before .before .before .before .before .before .before .before .before .before .before .before .before .before .survey-of .ensures) (c .before .before .before .before .before .before .before .before .before .before .before .before .before .before .before .before .before .if1 .taken) in
+    let hb = c .before .before .before .before .before .before .before .before .before .before .before .before .before .before .read-home .result in
+    let eh = c .before .before .before .before .before .before .before .before .before .before .before .before .before .before .read-home .ensures in
+    let t = c .before .before .before .before .before .before .before .before .before .before .choose .result in
+    let et = chosen-by l wf hb eh (c .before .before .before .before .before .before .before .before .before .before .before .before .before .before .before .before .before .before .survey-of .result) (c .before .before .before .before .before .before .before .before .before .before .before .before .before .before .before .before .before .before .survey-of .ensures) t (c .before .before .before .before .before .before .before .before .before .before .choose .ensures) in
+    let m = take-call l wf hb eh t (c .before .before .before .before .before .before .before .read-tile .result) (c .before .before .before .before .before .before .before .read-tile .ensures) (c .before .before .before .before .before .take .result) (c .before .before .before .before .popped1 .result) _ _ (c .before .before .before .before .before .before .before .before .before .before .before .before .if2 .taken) et (c .before .before .before .before .before .before .before .before .before .if3 .taken) (c .before .before .before .before .before .take .ensures) (c .before .before .before .before .popped1 .ensures) (c .before .before .commit-with .ensures) in
+    (m .answer, m .words)
+
+returns-2 : tie.Need-returns-2
+returns-2 c =
+    let l = c .before .before .before .before .before .before .before .before .before .before .before .before .before .args .w .now in
+    let wf : wellFormed l ≡ true = formed l (c .before .before .before .before .before .before .before .before .before .before .survey-of .result) true (c .before .before .before .before .before .before .before .before .before .before .survey-of .ensures) (c .before .before .before .before .before .before .before .before .before .if1 .taken) in
+    let hb = c .before .before .before .before .before .before .read-home .result in
+    let eh = c .before .before .before .before .before .before .read-home .ensures in
+    let t = c .before .before .choose .result in
+    let et = chosen-by l wf hb eh (c .before .before .before .before .before .before .before .before .before .before .survey-of .result) (c .before .before .before .before .before .before .before .before .before .before .survey-of .ensures) t (c .before .before .choose .ensures) in
+    let m = nobody-call l wf hb eh (c .before .before .before .before .if2 .taken) t et (c .before .if3 .left) in
+    (c .refused .ensures ∙ m .answer, m .words)
+
+returns-3 : tie.Need-returns-3
+returns-3 c =
+    let l = c .before .before .before .before .before .before .before .before .before .before .args .w .now in
+    let wf : wellFormed l ≡ true = formed l (c .before .before .before .before .before .before .before .survey-of .result) true (c .before .before .before .before .before .before .before .survey-of .ensures) (c .before .before .before .before .before .before .if1 .taken) in
+    let hb = c .before .before .before .read-home .result in
+    let eh = c .before .before .before .read-home .ensures in
+    let m = busy-call l wf hb eh (c .before .if2 .left) in
+    (c .refused2 .ensures ∙ m .answer, m .words)
+
+returns-4 : tie.Need-returns-4
+returns-4 c =
+    let l = c .before .before .before .before .before .args .w .now in
+    let m = malformed l taking (formed l (c .before .before .survey-of .result) false (c .before .before .survey-of .ensures) (c .before .if1 .left)) in
+    (c .refused3 .ensures ∙ m .answer, m .words)
+
+pub taking-spec : {M : Type 1} → statement M
+taking-spec =
+    tie.close
+    (tie.spec
+    (λ c κs. search needs)
+    slice-read-n
+    read-home-requires
+    choose-requires
+    (λ c. search needs)
+    (λ c. search needs)
+    read-tile-requires
+    (λ c κs. search needs)
+    (λ c κs. search needs)
+    commit-with-requires
+    (λ c κs. search needs)
+    (λ c κs. search needs)
+    (λ c κs. search needs)
+    (λ c. search needs)
+    returns
+    (λ c. search needs)
+    returns-2
+    (λ c. search needs)
+    returns-3
+    (λ c. search needs)
+    returns-4)

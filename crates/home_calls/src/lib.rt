@@ -1,0 +1,135 @@
+// The calls at the home: taking, delivery from a tile, memory step, memory ack, home eviction.
+ghost use mathlib.Core.Path.{_≡_};
+ghost use Prim.Native.Nat.{_<_};
+ghost use Rattle.protocol.specs.Parts.{taking, fromTile, memoryStep, memoryAck, homeEviction};
+ghost use Rattle.bench_words.specs.Calls.{stepOn, answerOf, wordsAfter, homeCall};
+ghost use Rattle.home_calls.specs.Taken.{chosen, popped1, popped3, homeStepOn};
+use bench_words::Answer;
+use home_steps::HomeStep;
+use words::HomeBlock;
+use words::TileBlock;
+
+// Round robin among the tiles that may be taken: the first beyond the last taken, else the first of all; 64 for none.
+fn choose(ready: u64, last: u64) -> u64
+    requires { ⌜ last < 64 ⌝ }
+    ensures { λ r. ⌜ r ≡ chosen ready last ⌝ }
+{
+    let a = find_first::next(ready, last + 1);
+    let b = find_first::next(ready, 0);
+    if a < 64 { a } else { b }
+}
+
+fn home_step(c: u64, x: HomeBlock) -> HomeStep
+    ensures { λ r. ⌜ r ≡ homeStepOn c x ⌝ }
+{
+    match c {
+        0 => home_steps::memory_step(x),
+        1 => home_steps::memory_ack(x),
+        _ => home_steps::evict_line(x),
+    }
+}
+
+// One of the calls at the home alone: 0 memory step, 1 memory ack, else home eviction.
+fn at_home(w: &mut [u64], c: u64) -> Answer
+    ensures answer { λ r. ⌜ r ≡ answerOf (stepOn (now (w .entry)) (homeCall c)) ⌝ }
+    ensures words { λ _. ⌜ now (w .exit) ≡ wordsAfter (now (w .entry)) (stepOn (now (w .entry)) (homeCall c)) ⌝ }
+{
+    let ok = bench_words::well_formed(w);
+    if ok {
+        let n = w[0];
+        let x = words::read_home(w);
+        let s = home_step(c, x);
+        posts::commit(w, n, 0, s)
+    } else {
+        bench_words::refused(1)
+    }
+}
+
+pub fn memory_step(w: &mut [u64]) -> Answer
+    ensures answer { λ r. ⌜ r ≡ answerOf (stepOn (now (w .entry)) memoryStep) ⌝ }
+    ensures words { λ _. ⌜ now (w .exit) ≡ wordsAfter (now (w .entry)) (stepOn (now (w .entry)) memoryStep) ⌝ }
+{
+    at_home(w, 0)
+}
+
+pub fn memory_ack(w: &mut [u64]) -> Answer
+    ensures answer { λ r. ⌜ r ≡ answerOf (stepOn (now (w .entry)) memoryAck) ⌝ }
+    ensures words { λ _. ⌜ now (w .exit) ≡ wordsAfter (now (w .entry)) (stepOn (now (w .entry)) memoryAck) ⌝ }
+{
+    at_home(w, 1)
+}
+
+pub fn home_eviction(w: &mut [u64]) -> Answer
+    ensures answer { λ r. ⌜ r ≡ answerOf (stepOn (now (w .entry)) homeEviction) ⌝ }
+    ensures words { λ _. ⌜ now (w .exit) ≡ wordsAfter (now (w .entry)) (stepOn (now (w .entry)) homeEviction) ⌝ }
+{
+    at_home(w, 2)
+}
+
+fn popped3(x: TileBlock) -> TileBlock
+    ensures { λ r. ⌜ r ≡ popped3 x ⌝ }
+{
+    let q = tile_steps::pop(x.noc3);
+    tile_steps::headed(x.head, x.noc1, x.noc2, q)
+}
+
+fn popped1(x: TileBlock) -> TileBlock
+    ensures { λ r. ⌜ r ≡ popped1 x ⌝ }
+{
+    let q = tile_steps::pop(x.noc1);
+    tile_steps::headed(x.head, q, x.noc2, x.noc3)
+}
+
+// Delivery from tile t, of the front message of its NoC3 queue.
+pub fn from_tile(w: &mut [u64], t: u64) -> Answer
+    ensures answer { λ r. ⌜ r ≡ answerOf (stepOn (now (w .entry)) (fromTile t)) ⌝ }
+    ensures words { λ _. ⌜ now (w .exit) ≡ wordsAfter (now (w .entry)) (stepOn (now (w .entry)) (fromTile t)) ⌝ }
+{
+    let ok = bench_words::well_formed(w);
+    if ok {
+        let n = w[0];
+        if t < n {
+            let at = 74 + 84 * (t as usize);
+            let h = words::read_home(w);
+            let x = words::read_tile(w, at);
+            let q = x.noc3;
+            let s = home_steps::accept(h, t, q.a);
+            let y = popped3(x);
+            posts::commit_with(w, n, 0, s, at, y)
+        } else {
+            bench_words::refused(2)
+        }
+    } else {
+        bench_words::refused(1)
+    }
+}
+
+// Arbitration (01's taking): the next tile in circle order whose NoC1 front is a request, or a guard with its mark set.
+pub fn taking(w: &mut [u64]) -> Answer
+    ensures answer { λ r. ⌜ r ≡ answerOf (stepOn (now (w .entry)) taking) ⌝ }
+    ensures words { λ _. ⌜ now (w .exit) ≡ wordsAfter (now (w .entry)) (stepOn (now (w .entry)) taking) ⌝ }
+{
+    let s = bench_words::survey_of(w);
+    if s.ok {
+        let n = w[0];
+        let h = words::read_home(w);
+        if h.phase == 0 {
+            let k = h.control;
+            let t = choose(s.ready, k.n0);
+            if t < 64 {
+                let at = 74 + 84 * (t as usize);
+                let x = words::read_tile(w, at);
+                let q = x.noc1;
+                let done = home_steps::take(h, t, q.a);
+                let y = popped1(x);
+                posts::commit_with(w, n, t, done, at, y)
+            } else {
+                bench_words::refused(7)
+            }
+        } else {
+            bench_words::refused(6)
+        }
+    } else {
+        bench_words::refused(1)
+    }
+}

@@ -1,0 +1,17 @@
+use mathlib.Core.Path.{refl}
+use borrow.Author.Tests.{eq-eqb, ne-eqb, lt-ltb, le-ltb, le-leb, lt-leb}
+use Rattle.home_parts.specs.Numbers.{cleared}
+use borrow.Author.Needs.{needs}
+use Rattle.home_replies.proofs.cleared.Statement.{statement}
+use Rattle.home_replies.proofs.cleared.Tie as tie
+
+returns : tie.Need-returns
+unfolding cleared
+returns c = simp (c .grant .ensures, eq-eqb _ _ (c .before .if1 .taken))
+
+returns-2 : tie.Need-returns-2
+unfolding cleared
+returns-2 c = simp (c .leave .ensures, ne-eqb _ _ (c .before .if1 .left))
+
+pub cleared-spec : {M : Type 1} → statement M
+cleared-spec = tie.close (tie.spec (λ c κs. search needs) (λ c κs. search needs) returns returns-2)

@@ -1,0 +1,30 @@
+use mathlib.Core.Path.{refl}
+use borrow.Author.Tests.{eq-eqb, ne-eqb, lt-ltb, le-ltb, le-leb, lt-leb}
+use Rattle.home_parts.specs.Numbers.{serveOwned}
+use borrow.Author.Needs.{needs}
+use Rattle.home_requests.proofs.serve_owned.Statement.{statement}
+use Rattle.home_requests.proofs.serve_owned.Tie as tie
+
+returns : tie.Need-returns
+unfolding serveOwned
+returns c = simp (c .grant .ensures, c .before .own-right .ensures, eq-eqb _ _ (c .before .before .if1 .taken))
+
+returns-2 : tie.Need-returns-2
+unfolding serveOwned
+returns-2 c = simp (c .ask .ensures, eq-eqb _ _ (c .before .if2 .taken), ne-eqb _ _ (c .before .before .if1 .left))
+
+returns-3 : tie.Need-returns-3
+unfolding serveOwned
+returns-3 c = simp (c .ask2 .ensures, ne-eqb _ _ (c .before .if2 .left), ne-eqb _ _ (c .before .before .if1 .left))
+
+pub serve-owned-spec : {M : Type 1} → statement M
+serve-owned-spec =
+    tie.close
+    (tie.spec
+    (λ c κs. search needs)
+    (λ c κs. search needs)
+    (λ c κs. search needs)
+    (λ c κs. search needs)
+    returns
+    returns-2
+    returns-3)

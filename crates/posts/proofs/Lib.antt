@@ -1,0 +1,4 @@
+pub mod Turns
+pub mod Posted
+pub mod Finished
+pub mod Commits

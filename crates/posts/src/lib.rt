@@ -1,0 +1,125 @@
+// A home step committed to the words of a bench: its new block, and its message on NoC2 of every tile that it tells.
+ghost use mathlib.Core.Path.{_≡_};
+ghost use mathlib.Core.Bool.{true};
+ghost use Prim.Native.Nat.{_+_, _*_, _≤_, _<_};
+ghost use lib.ListN.{length};
+ghost use Rattle.tile_steps.specs.Steps.{room};
+ghost use Rattle.words.specs.Blocks.{tileAt, over, tileWords, homeWords, TileFull, HomeFull};
+ghost use Rattle.bench_words.specs.Calls.{need};
+ghost use Rattle.posts.specs.Post.{rooms, toldTile, tellAll, homeAnswer, Committed};
+use bench_words::Answer;
+use home_steps::HomeStep;
+use words::Row;
+use words::TileBlock;
+
+fn one_room(w: &[u64], i: u64) -> bool
+    requires { ⌜ (need (i + 1) ≤ length (now w)) × (i < 64) ⌝ }
+    ensures { λ r. ⌜ r ≡ room (tileAt (now (w .entry)) (74 + 84 * i) .noc2) ⌝ }
+{
+    let at = 74 + 84 * (i as usize);
+    let q = words::read_pair(w, at + 36);
+    tile_steps::room(q)
+}
+
+// Is there room on NoC2 of every tile of the mask?
+fn rooms(w: &[u64], n: u64, to: u64) -> bool
+    requires { ⌜ (need n ≤ length (now w)) × (n ≤ 64) ⌝ }
+    ensures { λ r. ⌜ r ≡ rooms true (now (w .entry)) 74 0 to n ⌝ }
+{
+    let mut ok = true;
+    let mut i = find_first::next(to, 0);
+    while i < n {
+        ok = ok & one_room(w, i);
+        i = find_first::next(to, i + 1);
+    }
+    ok
+}
+
+fn told_tile(m: Row, x: TileBlock) -> TileBlock
+    ensures { λ r. ⌜ r ≡ toldTile m x ⌝ }
+{
+    let q = tile_steps::push(x.noc2, m);
+    tile_steps::headed(x.head, x.noc1, q, x.noc3)
+}
+
+fn tell_one(w: &mut [u64], i: u64, m: Row)
+    requires { ⌜ (need (i + 1) ≤ length (now w)) × (i < 64) ⌝ }
+    ensures { λ _. ⌜ now (w .exit) ≡ over (now (w .entry)) (74 + 84 * i) (tileWords (toldTile m (tileAt (now (w .entry)) (74 + 84 * i)))) ⌝ }
+{
+    let at = 74 + 84 * (i as usize);
+    let x = words::read_tile(w, at);
+    words::write_tile(w, at, told_tile(m, x));
+}
+
+// Puts the message m on NoC2 of every tile of the mask.
+fn tell_all(w: &mut [u64], n: u64, to: u64, m: Row)
+    requires { ⌜ (need n ≤ length (now w)) × (n ≤ 64) ⌝ }
+    ensures { λ _. ⌜ now (w .exit) ≡ tellAll (now (w .entry)) 74 0 to m n ⌝ }
+    ensures full { λ _. ⌜ length (m .words) ≡ 8 ⌝ }
+{
+    let mut i = find_first::next(to, 0);
+    while i < n {
+        tell_one(w, i, m);
+        i = find_first::next(to, i + 1);
+    }
+}
+
+fn home_answer(s: HomeStep, v: u64) -> Answer
+    ensures { λ r. ⌜ r ≡ homeAnswer s v ⌝ }
+{
+    Answer {
+        refusal: 0,
+        kind: s.kind,
+        value: v,
+        sent: s.sent,
+        tiles: s.to,
+    }
+}
+
+// Writes the home's new block and puts the step's message on its tiles' queues.
+fn finish(w: &mut [u64], n: u64, s: HomeStep)
+    requires { ⌜ (need n ≤ length (now w)) × (n ≤ 64) ⌝ }
+    ensures { λ _. ⌜ now (w .exit) ≡ tellAll (over (now (w .entry)) 0 (homeWords (s .home))) 74 0 (s .to) (s .forward) n ⌝ }
+    ensures home { λ _. ⌜ HomeFull (s .home) ⌝ }
+    ensures row { λ _. ⌜ length (s .forward .words) ≡ 8 ⌝ }
+{
+    words::write_home(w, s.home);
+    tell_all(w, n, s.to, s.forward);
+}
+
+// A home step that concerns no tile's own queues.
+pub fn commit(w: &mut [u64], n: u64, v: u64, s: HomeStep) -> Answer
+    requires { ⌜ (need n ≤ length (now w)) × (n ≤ 64) ⌝ }
+    ensures { λ r. ⌜ Committed (now (w .entry)) (now (w .entry)) n v s (Unit {0}) r (now (w .exit)) ⌝ }
+{
+    if s.refusal == 0 {
+        let free = rooms(w, n, s.to);
+        if free {
+            finish(w, n, s);
+            home_answer(s, v)
+        } else {
+            bench_words::refused(9)
+        }
+    } else {
+        bench_words::refused(s.refusal)
+    }
+}
+
+// A home step that takes a message off a queue of the tile at place `at`, which leaves its block as x.
+pub fn commit_with(w: &mut [u64], n: u64, v: u64, s: HomeStep, at: usize, x: TileBlock) -> Answer
+    requires { ⌜ (need n ≤ length (now w)) × (n ≤ 64) × (at + 84 ≤ length (now w)) ⌝ }
+    ensures { λ r. ⌜ Committed (now (w .entry)) (over (now (w .entry)) at (tileWords x)) n v s (TileFull x) r (now (w .exit)) ⌝ }
+{
+    if s.refusal == 0 {
+        let free = rooms(w, n, s.to);
+        if free {
+            words::write_tile(w, at, x);
+            finish(w, n, s);
+            home_answer(s, v)
+        } else {
+            bench_words::refused(9)
+        }
+    } else {
+        bench_words::refused(s.refusal)
+    }
+}

@@ -1,0 +1,74 @@
+use Prim.Native.Nat.{_<_}
+use mathlib.Core.Path.{refl, ap, sym, subst, _∙_}
+use Rattle.words.specs.declared.TileBlock.{TileBlock}
+use native.Mathlib.Omega.{arith}
+use Rattle.tile_steps.specs.Steps.{tileStepOn}
+use Rattle.bench_words.specs.Calls.{tileCall}
+use Rattle.bench_words.proofs.Decoded.{found}
+use Rattle.bench_words.proofs.Meets.{malformed}
+use Rattle.tile_calls.proofs.TileCalls.{no-tile, tile-refused, tile-done, word-below}
+use borrow.Author.Needs.{needs}
+use Rattle.tile_calls.proofs.at_tile.Statement.{statement}
+use Rattle.tile_calls.proofs.at_tile.Tie as tie
+
+slice-read-n : tie.Need-slice-read-n
+slice-read-n c = omega (arith, found _ (sym (c .before .before .well-formed .ensures) ∙ c .before .if1 .taken) .long)
+
+mul-at : tie.Need-mul-at
+mul-at c = omega (arith, found _ (sym (c .before .before .before .well-formed .ensures) ∙ c .before .before .if1 .taken) .most)
+
+add-at : tie.Need-add-at
+add-at c = omega (arith, found _ (sym (c .before .before .before .well-formed .ensures) ∙ c .before .before .if1 .taken) .most)
+
+read-tile-requires : tie.Need-read-tile-requires
+read-tile-requires c κs = omega (arith, found _ (sym (c .before .before .before .before .well-formed .ensures) ∙ c .before .before .before .if1 .taken) .enough)
+
+step-on-requires : tie.Need-step-on-requires
+step-on-requires c κs = subst (λ (x : TileBlock). x .head .n2 < 8) (sym (c .read-tile .ensures)) (word-below (c .before .before .before .before .before .before .before .before .args .w .now) (c .before .before .before .before .before .before .before .before .args .c) (c .before .before .before .before .before .before .before .before .args .t) (c .before .before .before .before .before .before .before .before .args .word) (c .before .before .before .before .before .before .before .before .args .value) (sym (c .before .before .before .before .before .well-formed .ensures) ∙ c .before .before .before .before .if1 .taken) (c .before .before .if2 .taken) _ refl)
+
+write-tile-requires : tie.Need-write-tile-requires
+write-tile-requires c κs = omega (arith, found _ (sym (c .before .before .before .before .before .before .before .before .before .well-formed .ensures) ∙ c .before .before .before .before .before .before .before .before .if1 .taken) .enough)
+
+returns : tie.Need-returns
+returns c =
+    let m = tile-done (c .before .before .before .before .before .before .before .before .before .before .before .before .before .before .before .before .args .w .now) (c .before .before .before .before .before .before .before .before .before .before .before .before .before .before .before .before .args .c) (c .before .before .before .before .before .before .before .before .before .before .before .before .before .before .before .before .args .t) (c .before .before .before .before .before .before .before .before .before .before .before .before .before .before .before .before .args .word) (c .before .before .before .before .before .before .before .before .before .before .before .before .before .before .before .before .args .value) (sym (c .before .before .before .before .before .before .before .before .before .before .before .before .before .well-formed .ensures) ∙ c .before .before .before .before .before .before .before .before .before .before .before .before .if1 .taken) (c .before .before .before .before .before .before .before .before .before .before .if2 .taken) (c .before .before .before .before .before .before .before .step-on .result) (c .before .before .before .before .before .before .before .step-on .ensures ∙ ap (tileStepOn _ _ _) (c .before .before .before .before .before .before .before .before .read-tile .ensures)) _ (c .before .before .before .write-tile .ensures .1) (c .before .before .before .write-tile .ensures .0) (c .before .before .before .before .before .if3 .taken) in
+    (c .accepted .ensures ∙ m .answer, m .words)
+
+returns-2 : tie.Need-returns-2
+returns-2 c =
+    let m = tile-refused (c .before .before .before .before .before .before .before .before .before .before .before .before .args .w .now) (c .before .before .before .before .before .before .before .before .before .before .before .before .args .c) (c .before .before .before .before .before .before .before .before .before .before .before .before .args .t) (c .before .before .before .before .before .before .before .before .before .before .before .before .args .word) (c .before .before .before .before .before .before .before .before .before .before .before .before .args .value) (sym (c .before .before .before .before .before .before .before .before .before .well-formed .ensures) ∙ c .before .before .before .before .before .before .before .before .if1 .taken) (c .before .before .before .before .before .before .if2 .taken) (c .before .before .before .step-on .result) (c .before .before .before .step-on .ensures ∙ ap (tileStepOn _ _ _) (c .before .before .before .before .read-tile .ensures)) (c .before .if3 .left) in
+    (c .refused .ensures ∙ m .answer, m .words)
+
+returns-3 : tie.Need-returns-3
+returns-3 c =
+    let m = no-tile (c .before .before .before .before .before .before .before .args .w .now) (c .before .before .before .before .before .before .before .args .c) (c .before .before .before .before .before .before .before .args .t) (c .before .before .before .before .before .before .before .args .word) (c .before .before .before .before .before .before .before .args .value) (sym (c .before .before .before .before .well-formed .ensures) ∙ c .before .before .before .if1 .taken) (c .before .if2 .left) in
+    (c .refused2 .ensures ∙ m .answer, m .words)
+
+returns-4 : tie.Need-returns-4
+returns-4 c =
+    let m = malformed (c .before .before .before .before .before .args .w .now) (tileCall (c .before .before .before .before .before .args .c) (c .before .before .before .before .before .args .t) (c .before .before .before .before .before .args .word) (c .before .before .before .before .before .args .value)) (sym (c .before .before .well-formed .ensures) ∙ c .before .if1 .left) in
+    (c .refused3 .ensures ∙ m .answer, m .words)
+
+pub at-tile-spec : {M : Type 1} → statement M
+at-tile-spec =
+    tie.close
+    (tie.spec
+    (λ c κs. search needs)
+    slice-read-n
+    mul-at
+    add-at
+    read-tile-requires
+    step-on-requires
+    write-tile-requires
+    (λ c κs. search needs)
+    (λ c κs. search needs)
+    (λ c κs. search needs)
+    (λ c κs. search needs)
+    (λ c. search needs)
+    returns
+    (λ c. search needs)
+    returns-2
+    (λ c. search needs)
+    returns-3
+    (λ c. search needs)
+    returns-4)
