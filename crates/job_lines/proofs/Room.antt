@@ -10,7 +10,7 @@ use lib.ListN.{length, length-append}
 use Rattle.lists.specs.Over.{bufferAfter, placeAfter, Placed, Put}
 use Rattle.lists.proofs.OverLaws.{placed-length}
 use Rattle.protocol.specs.Home.{members}
-use Rattle.protocol.proofs.Falls.{members-length}
+use Rattle.coherence.proofs.Falls.{members-length}
 use Rattle.bench_words.specs.declared.Answer.{Answer}
 use Rattle.sent.specs.declared.Place.{Place}
 use Rattle.sent.specs.Places.{place, each, both, placesOf}

@@ -9,6 +9,7 @@ use lib.Dec.{ltb, leb, eqb}
 use lib.ListN.{length}
 use Rattle.bench_words.specs.Calls.{startOn, wordsStarted}
 use Rattle.bench.specs.Runs as bench
+use Rattle.bench.proofs.Demand3.{started as bench-started}
 use Rattle.listing.specs.Lines.{benchLine, endLine, refusedLine}
 use Rattle.job_format.specs.declared.Checked.{Checked}
 use Rattle.job_format.specs.Job.{accepted, refused, fieldRefusal, checkEnd, checkFields, checkJob, headerEnd, tilesOf, addressOf, memoryOf, callAt, nextAt, callsOf, Call}

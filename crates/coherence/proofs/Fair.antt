@@ -11,13 +11,13 @@ use borrow.Author.Tests.{lt-ltb, le-ltb, eqb-false}
 use lib.Dec.{ltb, eqb}
 use lib.ListN.{length, set, length-replicate}
 use Rattle.bits.specs.Mask.{has}
 use Rattle.protocol.specs.Parts.{Words, empty, one, two, reading, writing, Request, loadReq, storeReq, wbGuardReq, Tile, tileOf, idle, awaitingLoad, awaitingOwner, awaitingAcks, awaitingStore, Bench, benchOf, Call, load, store, evict, taking, toTile, fromTile, memoryStep, memoryAck, homeEviction}
 use Rattle.protocol.specs.Home.{Move, move, range, serve}
 use Rattle.protocol.specs.Bench.{freshTile, fresh, tileAt, front, noc1, popNoc1, kindOf, circle, firstOf, eligible, arbitrate, served, take, takeFrom, takingOn, step}
 use Rattle.protocol.specs.Demand3.{after, runs, Answer, answer, answered, tilesOf, one-if, isRequest, requestAtFront, takes, takesAnother, passesOver, passedOver}
 use Rattle.protocol.proofs.Search.{split, First, first-range, pick, circle-first, first-passes, eligible-below}
-use Rattle.protocol.proofs.Sent.{lastTaken, asks, on-posted}
-use Rattle.protocol.proofs.Effect.{lastAfter, left}
+use Rattle.coherence.proofs.Sent.{lastTaken, asks, on-posted}
+use Rattle.coherence.proofs.Effect.{lastAfter, left}
 
 -- how many of n tiles are strictly between l and t in circle order
 unfoldable pub between : ℕ → ℕ → ℕ → ℕ

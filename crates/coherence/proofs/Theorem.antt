@@ -6,17 +6,17 @@ use mathlib.Core.List.{List, [], _∷_}
 use native.Mathlib.Nat.{le-trans}
 use lib.ListN.{length-replicate, getD-replicate}
 use Rattle.bits.proofs.MaskLaws.{has-none}
 use Rattle.protocol.specs.Parts.{Words, Bench, Call, Result, idle, absent}
 use Rattle.protocol.specs.Bench.{freshTile, fresh}
 use Rattle.protocol.specs.Demand3.{kept, after, runs, answered, isMisfit, canBeAccepted, history, waits, next, Demand3-statement}
-use Rattle.protocol.proofs.Invariant.{Sees, sees-absent, stranger-plain, resting, ok, absent-ok, idle-ok, At, at, Inv, inv, Fine, fine-refused, fine}
+use Rattle.coherence.proofs.Invariant.{Sees, sees-absent, stranger-plain, resting, ok, absent-ok, idle-ok, At, at, Inv, inv, Fine, fine-refused, fine}
 use Rattle.protocol.proofs.Tests.{clash}
-use Rattle.protocol.proofs.Calls.{step-fine}
-use Rattle.protocol.proofs.Bound.{measure-bound}
-use Rattle.protocol.proofs.Quiet.{settled, next-delivery}
-use Rattle.protocol.proofs.Bounded.{bounded-by}
-use Rattle.protocol.proofs.Waiting.{waiting-in-tile}
-use Rattle.protocol.proofs.Fair as fairness
+use Rattle.coherence.proofs.Calls.{step-fine}
+use Rattle.coherence.proofs.Bound.{measure-bound}
+use Rattle.coherence.proofs.Quiet.{settled, next-delivery}
+use Rattle.coherence.proofs.Bounded.{bounded-by}
+use Rattle.coherence.proofs.Waiting.{waiting-in-tile}
+use Rattle.coherence.proofs.Fair as fairness
 
 -- the invariant of every bench that a list of calls leaves
 fresh-inv : (n : ℕ) (mem : Words) → Inv n (fresh n mem)

@@ -8,15 +8,15 @@ use native.Mathlib.Omega.{arith}
 use lib.Dec.{ltb, eqb}
 use lib.ListN.{length, set, length-set}
 use Rattle.bits.specs.Mask.{add, del, has}
 use Rattle.protocol.specs.Parts.{Words, Queue, empty, one, two, Access, reading, writing, Right, Cache, Waiting, Request, loadReq, storeReq, wbGuardReq, Forward, loadFwd, storeFwd, invFwd, dataAck, Reply, wbReq, loadFwdAckS, loadFwdAckI, storeFwdAck, invFwdAck, ToMemory, loadMem, storeMem, FromMemory, loadMemAck, storeMemAck, Message, fromMemory, Tile, tileOf, uncached, sharedBy, ownedBy, Line, absent, present, Cause, request, eviction, Clearing, clearForStore, clearForEviction, Home, idle, awaitingLoad, awaitingOwner, awaitingAcks, awaitingStore, Bench, benchOf, Call, load, store, evict, taking, toTile, fromTile, memoryStep, memoryAck, homeEviction, Result, refused, accepted}
 use Rattle.protocol.specs.Tile.{Received, misfit, filled, receive, received, deliverTo}
 use Rattle.protocol.specs.Home.{Move, move, range, among, members, grantShared, grantOwner, ownRight, askedFor, askOwner, invalidateTo, invalidate, leave, serve, writeBack, wordsAfter, dirtyAfter, loadAckS, loadAckI, storeAck, cleared, invAck, acknowledged}
 use Rattle.protocol.specs.Bench.{tileAt, front, rest, noc1, noc3, popNoc1, popNoc3, settle, atTile, posted, kindOf, arbitrate, served, take, takeFrom, takingOn, writtenBack, moved, accept, fromTileOn, memoryServes, memoryStepOn, acceptAck, memoryAckOn, step}
 use Rattle.protocol.specs.Demand3.{kept, after, answered, isAccepted, canBeAccepted, isDelivery, tilesOf}
 use Rattle.protocol.proofs.Tests.{by-test}
-use Rattle.protocol.proofs.Weight.{queueWeight, requestWeight, forwardWeight, replyWeight, outWeight, backWeight, tileWeight, causeWeight, clearingWeight, homeWeight, measure}
-use Rattle.protocol.proofs.Sent.{set-weight, messageWeight, messagesWeight, on-posted}
-use Rattle.protocol.proofs.Effect.{Fits, receives}
+use Rattle.coherence.proofs.Weight.{queueWeight, requestWeight, forwardWeight, replyWeight, outWeight, backWeight, tileWeight, causeWeight, clearingWeight, homeWeight, measure}
+use Rattle.coherence.proofs.Sent.{set-weight, messageWeight, messagesWeight, on-posted}
+use Rattle.coherence.proofs.Effect.{Fits, receives}
 
 -- an accepted call leaves less
 abbrev Lighter : Bench → Result Bench → Type 0

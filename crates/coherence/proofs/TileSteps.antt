@@ -4,11 +4,11 @@ use mathlib.Core.Path.{_≡_, refl, ap}
 use mathlib.Core.Bool.{Bool, false}
 use mathlib.Core.List.{[], _∷_}
 use mathlib.Core.Option.{Option, some, none, Option·map}
 use Rattle.protocol.specs.Parts.{Words, Queue, empty, Access, shared, exclusive, modified, Cache, invalid, valid, Waiting, Request, loadReq, storeReq, Forward, Reply, onNoc1, onNoc3, Tile, tileOf, Result, refused, accepted}
 use Rattle.protocol.specs.Tile.{loadAt, storeAt, evictAt, deliverTo, received, receive, fill}
 use Rattle.protocol.specs.Bench.{push, onTile1, onTile2, onTile3}
 use Rattle.protocol.specs.Demand3.{answer, isMisfit}
-use Rattle.protocol.proofs.Invariant.{Relation, sharer, owner, join, Weak, weak-I, weak-S, Wants, resting, loadQueued, storeQueued, loadCurrent, storeCurrent, sharedGranted, exclusiveGranted, modifiedGranted, Askable, not-asked, ask-load, ask-store, ask-inv, SharedData, no-data, shared-data, Owns, owns-I, owns-E, owns-M, sent-E, sent-M, replies-load, replies-store, answers-load, answers-store, Table, stranger-plain, stranger-in, sharer-plain, sharer-replied, owner-plain, owner-replied, owner-shared, owner-out, owner-out-replied, owner-in, owner-in-replied, TileOk, ok}
+use Rattle.coherence.proofs.Invariant.{Relation, sharer, owner, join, Weak, weak-I, weak-S, Wants, resting, loadQueued, storeQueued, loadCurrent, storeCurrent, sharedGranted, exclusiveGranted, modifiedGranted, Askable, not-asked, ask-load, ask-store, ask-inv, SharedData, no-data, shared-data, Owns, owns-I, owns-E, owns-M, sent-E, sent-M, replies-load, replies-store, answers-load, answers-store, Table, stranger-plain, stranger-in, sharer-plain, sharer-replied, owner-plain, owner-replied, owner-shared, owner-out, owner-out-replied, owner-in, owner-in-replied, TileOk, ok}
 
 -- a tile's rule at tile t: refused, and not by 8 or 9; or accepted, with P of the tile once the messages are on its queues
 pub data Kept (t : ℕ) (P : Tile → Type 0) : Result Tile → Type 0 where

@@ -3,12 +3,12 @@ use Prim.Native.Nat.{ℕ}
 use mathlib.Core.Path.{_≡_, refl}
 use mathlib.Core.Bool.{Bool, true, false}
 use mathlib.Core.Option.{Option, some, none}
 use Rattle.protocol.specs.Parts.{Words, Access, reading, writing, shared, Request, loadReq, storeReq, wbGuardReq, Forward, loadFwd, storeFwd, invFwd, dataAck, Reply, wbReq, loadFwdAckS, loadFwdAckI, storeFwdAck, invFwdAck, Tile}
 use Rattle.protocol.specs.Home.{ownRight}
 use Rattle.protocol.specs.Bench.{push, front, rest, onTile2, eligible, noc1, popNoc1, noc3, popNoc3}
 use Rattle.protocol.proofs.Tests.{false-true}
-use Rattle.protocol.proofs.Invariant.{Relation, stranger, sharer, owner, weak-I, resting, loadQueued, storeQueued, loadCurrent, storeCurrent, sharedGranted, exclusiveGranted, modifiedGranted, Askable, not-asked, ask-load, ask-store, ask-inv, no-data, shared-data, sent-E, sent-M, replies-load, replies-store, answers-load, answers-store, stranger-plain, stranger-in, sharer-plain, sharer-replied, owner-plain, owner-replied, owner-shared, owner-out, owner-out-replied, owner-in, owner-in-replied, TileOk, ok}
-use Rattle.protocol.proofs.TileSteps.{on2}
+use Rattle.coherence.proofs.Invariant.{Relation, stranger, sharer, owner, weak-I, resting, loadQueued, storeQueued, loadCurrent, storeCurrent, sharedGranted, exclusiveGranted, modifiedGranted, Askable, not-asked, ask-load, ask-store, ask-inv, no-data, shared-data, sent-E, sent-M, replies-load, replies-store, answers-load, answers-store, stranger-plain, stranger-in, sharer-plain, sharer-replied, owner-plain, owner-replied, owner-shared, owner-out, owner-out-replied, owner-in, owner-in-replied, TileOk, ok}
+use Rattle.coherence.proofs.TileSteps.{on2}
 
 -- ---- taking
 

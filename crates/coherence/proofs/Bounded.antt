@@ -4,11 +4,11 @@ use mathlib.Core.Path.{_≡_, refl, sym, ap}
 use mathlib.Core.Bool.{Bool, true, false, not, _&&_, false≢true}
 use mathlib.Core.List.{List, [], _∷_}
 use native.Mathlib.Omega.{arith}
 use Rattle.protocol.specs.Parts.{Bench, Call, Result, refused, accepted}
 use Rattle.protocol.specs.Bench.{step}
 use Rattle.protocol.specs.Demand3.{kept, after, answered, isAccepted, canBeAccepted, isDelivery, one-if, acceptedOf, isOther}
-use Rattle.protocol.proofs.Weight.{measure}
-use Rattle.protocol.proofs.Falls.{falls}
+use Rattle.coherence.proofs.Weight.{measure}
+use Rattle.coherence.proofs.Falls.{falls}
 
 -- a call that is not accepted changes nothing
 pub refused-same : (c : Call) (b : Bench) → canBeAccepted c b ≡ false → after c b ≡ b

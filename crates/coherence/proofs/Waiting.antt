@@ -4,10 +4,10 @@ use mathlib.Core.Path.{_≡_, refl, sym, ap, _∙_}
 use mathlib.Core.Bool.{Bool, false}
 use mathlib.Core.List.{List, [], _∷_}
 use lib.ListN.{replicate}
 use Rattle.protocol.specs.Parts.{Words, Bench, Call}
 use Rattle.protocol.specs.Bench.{freshTile, fresh, tileAt}
 use Rattle.protocol.specs.Demand3.{after, runs, history, waitsSince, waits, isWaiting, tilesOf}
-use Rattle.protocol.proofs.Effect.{left}
+use Rattle.coherence.proofs.Effect.{left}
 
 -- tile t of a fresh bench, also past its end
 pub fresh-tile : (n t : ℕ) → tileAt (replicate n freshTile) t ≡ freshTile

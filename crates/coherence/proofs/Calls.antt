@@ -12,17 +12,17 @@ use lib.Seq.{getD-set-same, set-set}
 use borrow.Author.Tests.{eqb-true, eqb-false, ne-eqb, ltb-true}
 use Rattle.bits.specs.Mask.{has, add, del}
 use Rattle.bits.proofs.MaskLaws.{has-add, has-add-other, has-del, has-del-other, has-none, add-lt, del-lt}
 use Rattle.protocol.specs.Parts.{Words, Queue, empty, Access, reading, writing, Request, Forward, Reply, ToMemory, FromMemory, onNoc1, onNoc3, Tile, uncached, sharedBy, ownedBy, Line, absent, present, Cause, request, eviction, Clearing, clearForStore, clearForEviction, Home, idle, awaitingLoad, awaitingOwner, awaitingAcks, awaitingStore, Bench, benchOf, Call, load, store, evict, taking, toTile, fromTile, memoryStep, memoryAck, homeEviction, Result}
 use Rattle.protocol.specs.Tile.{loadAt, storeAt, evictAt, deliverTo}
 use Rattle.protocol.specs.Home.{Move, move, grantShared, grantOwner, ownRight, askOwner, invalidate, leave, serve, writeBack, wordsAfter, dirtyAfter, loadAckS, loadAckI, storeAck, cleared, invAck, acknowledged, evictLine}
 use Rattle.protocol.specs.Bench.{freshTile, tileAt, push, front, rest, onTile1, onTile3, sendOne, sendTo, send, sent, posted, kindOf, settle, atTile, atWord, eligible, arbitrate, popNoc1, served, take, takeFrom, takingOn, noc3, popNoc3, writtenBack, moved, accept, fromTileOn, memoryServes, memoryStepOn, acceptAck, memoryAckOn, homeEvictionOn, step}
 use Rattle.protocol.specs.Demand3.{isMisfit}
 use Rattle.protocol.proofs.Tests.{clash, by-test, if-true, if-false, eqb-same, at-or-not}
 use Rattle.protocol.proofs.Search.{first-passes, eligible-below}
-use Rattle.protocol.proofs.Invariant.{Relation, stranger, sharer, owner, TileOk, AsksFor, asks-load, asks-store, asks-eviction, Apart, apart-request, apart-eviction, ApartFrom, apart-store, apart-clearing, Sees, sees-absent, sees-uncached, sees-sharer, sees-outsider, sees-owner, sees-unowning, loads, loads-not, asked-owner, requester, bystander, owing, storer, cleared-out, sees-leaving, LineOk, absent-ok, uncached-ok, shared-ok, owned-ok, CauseOk, request-ok, eviction-ok, ClearingOk, store-ok, clearing-ok, Inside, HomeOk, idle-ok, load-out, load-back, owner-ok, acks-ok, store-out, store-back, At, at, All, Inv, inv, Fine, fine-refused, fine}
-use Rattle.protocol.proofs.TileSteps.{Kept, kept-refused, kept-silent, kept-request, kept-reply, kept-write-back, load-kept, store-kept, evict-kept, deliver-kept}
-use Rattle.protocol.proofs.ViewSteps.{Front1, guard-front, load-front, store-front, front1, GrantFrom, from-stranger, from-sharer, from-owner, ShareFrom, share-stranger, share-sharer, as-sharer, Front3, no-front, wb-idle, wb-asked, ack-shared, ack-invalid, ack-store, ack-inv, front3}
-use Rattle.protocol.proofs.Moves.{Knowledge, same-tile, other-tile, each-tile, carry, Exactly, exactly, Alone, post, Grantee, grantee, Sharee, sharee, Beside, asker, beside, ToClear, to-owe, to-store, to-pass, grantOwner-fine, grantShared-fine, askOwner-fine, leave-fine, invalidate-fine}
+use Rattle.coherence.proofs.Invariant.{Relation, stranger, sharer, owner, TileOk, AsksFor, asks-load, asks-store, asks-eviction, Apart, apart-request, apart-eviction, ApartFrom, apart-store, apart-clearing, Sees, sees-absent, sees-uncached, sees-sharer, sees-outsider, sees-owner, sees-unowning, loads, loads-not, asked-owner, requester, bystander, owing, storer, cleared-out, sees-leaving, LineOk, absent-ok, uncached-ok, shared-ok, owned-ok, CauseOk, request-ok, eviction-ok, ClearingOk, store-ok, clearing-ok, Inside, HomeOk, idle-ok, load-out, load-back, owner-ok, acks-ok, store-out, store-back, At, at, All, Inv, inv, Fine, fine-refused, fine}
+use Rattle.coherence.proofs.TileSteps.{Kept, kept-refused, kept-silent, kept-request, kept-reply, kept-write-back, load-kept, store-kept, evict-kept, deliver-kept}
+use Rattle.coherence.proofs.ViewSteps.{Front1, guard-front, load-front, store-front, front1, GrantFrom, from-stranger, from-sharer, from-owner, ShareFrom, share-stranger, share-sharer, as-sharer, Front3, no-front, wb-idle, wb-asked, ack-shared, ack-invalid, ack-store, ack-inv, front3}
+use Rattle.coherence.proofs.Moves.{Knowledge, same-tile, other-tile, each-tile, carry, Exactly, exactly, Alone, post, Grantee, grantee, Sharee, sharee, Beside, asker, beside, ToClear, to-owe, to-store, to-pass, grantOwner-fine, grantShared-fine, askOwner-fine, leave-fine, invalidate-fine}
 
 -- ---- the calls at one tile
 

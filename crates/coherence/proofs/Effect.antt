@@ -10,13 +10,13 @@ use lib.Dec.{ltb, eqb}
 use lib.ListN.{length, set, length-set}
 use lib.Seq.{getD-set-same, getD-set-other}
 use Rattle.bits.specs.Mask.{add, del, has}
 use Rattle.protocol.specs.Parts.{Words, Queue, empty, one, two, reading, writing, Right, shared, exclusive, modified, Cache, invalid, valid, Waiting, nothing, forLoad, forStore, Request, loadReq, storeReq, wbGuardReq, Forward, loadFwd, storeFwd, invFwd, dataAck, Reply, wbReq, loadFwdAckS, loadFwdAckI, storeFwdAck, invFwdAck, ToMemory, loadMem, storeMem, FromMemory, loadMemAck, storeMemAck, fromMemory, Tile, tileOf, absent, present, Home, idle, awaitingLoad, awaitingOwner, awaitingAcks, awaitingStore, Bench, benchOf, Call, load, store, evict, taking, toTile, fromTile, memoryStep, memoryAck, homeEviction, Result, refused, accepted}
 use Rattle.protocol.specs.Tile.{loadAt, storeAt, evictAt, Received, misfit, filled, fill, receive, received, deliverTo}
 use Rattle.protocol.specs.Home.{Move, move, serve, writeBack, loadAckS, loadAckI, storeAck, invAck, acknowledged, evictLine}
 use Rattle.protocol.specs.Bench.{freshTile, tileAt, front, rest, noc1, noc3, popNoc1, popNoc3, settle, atTile, atWord, posted, kindOf, arbitrate, served, take, takeFrom, takingOn, writtenBack, moved, accept, fromTileOn, memoryServes, memoryStepOn, acceptAck, memoryAckOn, homeEvictionOn, step}
 use Rattle.protocol.specs.Demand3.{kept, after, Answer, answer, answered, hasKind, event, waitsAfter, isWaiting, tilesOf, takes}
-use Rattle.protocol.proofs.Weight.{forwardWeight}
-use Rattle.protocol.proofs.Sent.{lastTaken, asks, Alike, waiting-alone, set-related, Same, same-bench, same-tiles, same-then, same-set, on-posted}
+use Rattle.coherence.proofs.Weight.{forwardWeight}
+use Rattle.coherence.proofs.Sent.{lastTaken, asks, Alike, waiting-alone, set-related, Same, same-bench, same-tiles, same-then, same-set, on-posted}
 
 -- a taking's answer names the last taken; a refused one changes nothing
 unfoldable pub lastAfter : Call → Answer → ℕ → ℕ

@@ -10,12 +10,12 @@ use lib.ListN.{length, set, length-set}
 use lib.Seq.{getD-set-same, getD-set-other}
 use Rattle.bits.specs.Mask.{has, add}
 use Rattle.bits.proofs.MaskLaws.{has-add, has-add-other, add-lt}
 use Rattle.protocol.specs.Parts.{Words, Queue, empty, Access, reading, writing, Forward, invFwd, ToMemory, FromMemory, Message, onNoc2, Tile, sharedBy, ownedBy, Line, absent, present, Cause, request, eviction, Clearing, clearForStore, Home, idle, awaitingOwner, awaitingAcks, awaitingStore, Bench, benchOf, Result}
 use Rattle.protocol.specs.Home.{Move, move, range, among, members, grantShared, grantOwner, ownRight, askedFor, askOwner, invalidateTo, invalidate, leave}
 use Rattle.protocol.specs.Bench.{freshTile, tileAt, push, sendOne, sendTo, send, sent, posted, kindOf}
 use Rattle.protocol.proofs.Tests.{clash, by-test, at-or-not}
-use Rattle.protocol.proofs.Invariant.{Relation, stranger, sharer, owner, Askable, ask-load, ask-store, ask-inv, AsksFor, asks-load, asks-store, asks-eviction, Apart, ApartFrom, Sees, sees-absent, sees-sharer, sees-outsider, sees-owner, sees-unowning, asked-owner, requester, bystander, owing, storer, cleared-out, sees-leaving, absent-ok, shared-ok, owned-ok, CauseOk, ClearingOk, Inside, idle-ok, owner-ok, acks-ok, store-out, At, at, All, Inv, inv, Fine, fine}
-use Rattle.protocol.proofs.ViewSteps.{GrantFrom, Placed, placed, grant-owner, ShareFrom, grant-shared, ask-tile}
+use Rattle.coherence.proofs.Invariant.{Relation, stranger, sharer, owner, Askable, ask-load, ask-store, ask-inv, AsksFor, asks-load, asks-store, asks-eviction, Apart, ApartFrom, Sees, sees-absent, sees-sharer, sees-outsider, sees-owner, sees-unowning, asked-owner, requester, bystander, owing, storer, cleared-out, sees-leaving, absent-ok, shared-ok, owned-ok, CauseOk, ClearingOk, Inside, idle-ok, owner-ok, acks-ok, store-out, At, at, All, Inv, inv, Fine, fine}
+use Rattle.coherence.proofs.ViewSteps.{GrantFrom, Placed, placed, grant-owner, ShareFrom, grant-shared, ask-tile}
 
 -- what is known of each tile
 abbrev pub Knowledge : Type 1

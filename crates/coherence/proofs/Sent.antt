@@ -7,10 +7,10 @@ use mathlib.Core.List.{List, [], _∷_}
 use mathlib.Core.Option.{Option, some, none, Option·map}
 use native.Mathlib.Omega.{arith}
 use lib.ListN.{length, set, length-set}
 use Rattle.protocol.specs.Parts.{Words, Queue, empty, one, two, Waiting, nothing, forLoad, forStore, Cache, Request, Forward, Reply, ToMemory, FromMemory, Message, onNoc1, onNoc2, onNoc3, toMemory, fromMemory, Tile, tileOf, Home, Bench, benchOf, Result, refused, accepted}
 use Rattle.protocol.specs.Bench.{freshTile, tileAt, push, front, noc1, onTile1, onTile2, onTile3, sendOne, sendTo, send, sent, posted}
 use Rattle.protocol.specs.Demand3.{isWaiting, tilesOf, isRequest}
-use Rattle.protocol.proofs.Weight.{queueWeight, requestWeight, forwardWeight, replyWeight, outWeight, backWeight, tileWeight, tilesWeight, measure}
+use Rattle.coherence.proofs.Weight.{queueWeight, requestWeight, forwardWeight, replyWeight, outWeight, backWeight, tileWeight, tilesWeight, measure}
 
 unfoldable pub lastTaken : Bench → ℕ
 lastTaken (benchOf h l k mem out back ts) = l

@@ -11,16 +11,16 @@ use lib.Pow.{pow-pos}
 use borrow.Author.Tests.{lt-ltb, not-true, not-false}
 use Rattle.bits.specs.Mask.{has}
 use Rattle.bits.proofs.MaskLaws.{has-none, ext}
 use Rattle.protocol.specs.Parts.{Words, Queue, empty, one, two, Access, Cache, Waiting, Request, loadReq, storeReq, wbGuardReq, Forward, Reply, wbReq, loadFwdAckS, loadFwdAckI, storeFwdAck, invFwdAck, ToMemory, loadMem, storeMem, FromMemory, Message, Tile, tileOf, Line, Home, idle, awaitingOwner, awaitingAcks, Cause, Clearing, Bench, benchOf, taking, toTile, fromTile, memoryStep, memoryAck, Result, refused, accepted}
 use Rattle.protocol.specs.Tile.{Received, misfit, filled, answered, received, receive, deliverTo}
 use Rattle.protocol.specs.Home.{Move, move, range, writeBack, loadAckS, loadAckI, storeAck, invAck, acknowledged}
 use Rattle.protocol.specs.Bench.{freshTile, tileAt, front, rest, send, sent, posted, kindOf, settle, atTile, circle, firstOf, eligible, arbitrate, noc1, popNoc1, served, take, takeFrom, takingOn, noc3, popNoc3, writtenBack, moved, accept, fromTileOn, memoryServes, memoryStepOn, acceptAck, memoryAckOn, step}
 use Rattle.protocol.specs.Demand3.{answer, isAccepted, isMisfit, canBeAccepted, isDelivery, isWaiting, tilesOf, isEmpty, noc2, memoryNext, fromNext, toNext, next, Quiet}
 use Rattle.protocol.specs.Demand3 as demand
-use Rattle.protocol.proofs.Invariant.{Relation, join, resting, loadQueued, storeQueued, sharedGranted, exclusiveGranted, modifiedGranted, not-asked, ask-load, ask-store, ask-inv, stranger-plain, stranger-in, sharer-plain, sharer-replied, owner-plain, owner-replied, owner-shared, owner-out, owner-out-replied, owner-in, owner-in-replied, TileOk, ok, Sees, asked-owner, requester, bystander, owing, storer, cleared-out, HomeOk, idle-ok, load-out, load-back, owner-ok, acks-ok, store-out, store-back, At, at, All, Inv, inv, Fine, fine-refused, fine}
+use Rattle.coherence.proofs.Invariant.{Relation, join, resting, loadQueued, storeQueued, sharedGranted, exclusiveGranted, modifiedGranted, not-asked, ask-load, ask-store, ask-inv, stranger-plain, stranger-in, sharer-plain, sharer-replied, owner-plain, owner-replied, owner-shared, owner-out, owner-out-replied, owner-in, owner-in-replied, TileOk, ok, Sees, asked-owner, requester, bystander, owing, storer, cleared-out, HomeOk, idle-ok, load-out, load-back, owner-ok, acks-ok, store-out, store-back, At, at, All, Inv, inv, Fine, fine-refused, fine}
 use Rattle.protocol.proofs.Tests.{false-true, clash, at-or-not, if-true, everywhere, there}
 use Rattle.protocol.proofs.Search.{first-passes, range-none, circle-none}
-use Rattle.protocol.proofs.Calls.{at-rest, step-fine}
+use Rattle.coherence.proofs.Calls.{at-rest, step-fine}
 
 -- ---- what is refused, if at all, by 8 or 9 alone is accepted under the invariant
 
