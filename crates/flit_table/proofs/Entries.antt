@@ -1,4 +1,4 @@
--- The const table by type number is 01's lines: one equation that antt computes over all 32 entries. Assumes nothing.
+-- The table by type number is 01's lines: one equation that antt computes over all 32 numbers, and one law that makes of it the rule at each entry. Assumes nothing.
 use mathlib.Core.Path.{_≡_, refl, sym, ap, _∙_}
 use mathlib.Core.Bool.{Bool, true, false, _&&_}
 use mathlib.Core.List.{List, [], _∷_}
@@ -10,10 +10,10 @@ use lib.ListN.{getD}
 use borrow.Author.Tests.{ne-eqb}
 use Rattle.flit_table.specs.declared.Row.{Row}
 use Rattle.flit_table.proofs.Tests.{and-left, and-right}
-use Rattle.flit_table.specs.Table.{Line, lines, member, find, rowOf, absent}
+use Rattle.flit_table.specs.Table.{Line, lines, member, find, rowOf, absent, request, ofLine, ack, bare, reply, I, S}
 
 -- f at i, i + 1, .. for n numbers
-abbrev pub from : (ℕ → Row) → ℕ → ℕ → List Row
+abbrev from : (ℕ → Row) → ℕ → ℕ → List Row
 from f i zero = []
 from f i (suc n) = f i ∷ from f (suc i) n
 
@@ -22,9 +22,53 @@ getD-from f zero i k d h = absurd (not-suc-le-zero h)
 getD-from f (suc n) i zero d h = ap f (sym (add-zero i))
 getD-from f (suc n) i (suc k) d h = getD-from f n (suc i) k d (le-of-suc-le-suc h) ∙ ap f (suc-add i k ∙ sym (add-suc i k))
 
--- a table that is the rows of 0 .. 31 has at k the row of k
-pub entry : (table : List Row) → from rowOf 0 32 ≡ table → (k : ℕ) (d : Row) → k < 32 → getD table k d ≡ rowOf k
-entry table e k d h = ap (λ (t : List Row). getD t k d) (sym e) ∙ getD-from rowOf 32 0 k d h ∙ ap rowOf (zero-add k)
+-- the rows of 0 to 31, as the code has them
+abbrev pub table : List Row
+table =
+    absent
+    ∷ absent
+    ∷ request 0
+    ∷ absent
+    ∷ absent
+    ∷ absent
+    ∷ absent
+    ∷ absent
+    ∷ absent
+    ∷ absent
+    ∷ absent
+    ∷ absent
+    ∷ ofLine 3 10 7 0
+    ∷ ofLine 1 2 0 0
+    ∷ absent
+    ∷ absent
+    ∷ ofLine 2 2 0 15
+    ∷ ofLine 2 2 0 15
+    ∷ ofLine 2 2 0 15
+    ∷ ofLine 2 2 7 0
+    ∷ ofLine 2 10 7 0
+    ∷ ack 0 8 I S S
+    ∷ ack 0 8 I I I
+    ∷ ack 0 0 I I I
+    ∷ bare 3 8
+    ∷ bare 3 0
+    ∷ absent
+    ∷ absent
+    ∷ reply 0 I
+    ∷ reply 8 S
+    ∷ absent
+    ∷ request 1
+    ∷ []
+
+all-entries : from rowOf 0 32 ≡ table
+unfolding rowOf
+all-entries = refl
+
+-- a type t with the number k has the row at k
+pub entry : (k t : ℕ) → T (ltb k 32) → t ≡ k → getD table k absent ≡ rowOf t
+entry k t b e =
+    ap (λ (rows : List Row). getD rows k absent) (sym all-entries)
+    ∙ getD-from rowOf 32 0 k absent (ltb→lt k 32 b)
+    ∙ ap rowOf (zero-add k ∙ sym e)
 
 -- no type from 32 on is in the table: a test over its types
 small : List ℕ → Bool
