@@ -103,6 +103,10 @@ push-full q m f n = go (eqb (q .a .n0) 0)
     go true = record { first = n; second = refl }
     go false = record { first = f .first; second = n }
 
+pub pop-full : (q : Pair) → PairFull q → PairFull (pop q)
+unfolding pop
+pop-full q f = record { first = f .second; second = refl }
+
 -- a tile told in place
 pub told-over : (l k : List ℕ) (at : ℕ) (m : Row) → at + 84 ≤ length l → length (m .words) ≡ 8 → k ≡ over l (at + 36) (pairWords (push (pairAt l (at + 36)) m)) → k ≡ over l at (tileWords (toldTile m (tileAt l at)))
 unfolding toldTile tileAt
