@@ -10,7 +10,8 @@ use lib.ListN.{getD}
 use borrow.Author.Tests.{ne-eqb}
 use Rattle.flit_table.specs.declared.Row.{Row}
 use Rattle.flit_table.proofs.Tests.{and-left, and-right}
-use Rattle.flit_table.specs.Table.{Line, lines, member, find, rowOf, absent, request, ofLine, ack, bare, reply, I, S}
+use Rattle.flit_table.specs.Table.{Line, lines, member, find, rowOf, absent}
+use Rattle.flit_table.specs.Columns.{rowAt}
 
 -- f at i, i + 1, .. for n numbers
 abbrev from : (ℕ → Row) → ℕ → ℕ → List Row
@@ -22,53 +23,63 @@ getD-from f zero i k d h = absurd (not-suc-le-zero h)
 getD-from f (suc n) i zero d h = ap f (sym (add-zero i))
 getD-from f (suc n) i (suc k) d h = getD-from f n (suc i) k d (le-of-suc-le-suc h) ∙ ap f (suc-add i k ∙ sym (add-suc i k))
 
--- the rows of 0 to 31, as the code has them
-abbrev pub table : List Row
+-- two functions that agree on a list of numbers agree on each
+at : (f g : ℕ → Row) (n : ℕ) → from f 0 n ≡ from g 0 n → (k : ℕ) → k < n → f k ≡ g k
+at f g n e k h =
+    ap f (sym (zero-add k))
+    ∙ sym (getD-from f n 0 k absent h)
+    ∙ ap (λ (rows : List Row). getD rows k absent) e
+    ∙ getD-from g n 0 k absent h
+    ∙ ap g (zero-add k)
+
+-- the entries of 0 to 31, as the code has them
+abbrev pub table : List ℕ
 table =
-    absent
-    ∷ absent
-    ∷ request 0
-    ∷ absent
-    ∷ absent
-    ∷ absent
-    ∷ absent
-    ∷ absent
-    ∷ absent
-    ∷ absent
-    ∷ absent
-    ∷ absent
-    ∷ ofLine 3 10 7 0
-    ∷ ofLine 1 2 0 0
-    ∷ absent
-    ∷ absent
-    ∷ ofLine 2 2 0 15
-    ∷ ofLine 2 2 0 15
-    ∷ ofLine 2 2 0 15
-    ∷ ofLine 2 2 7 0
-    ∷ ofLine 2 10 7 0
-    ∷ ack 0 8 I S S
-    ∷ ack 0 8 I I I
-    ∷ ack 0 0 I I I
-    ∷ bare 3 8
-    ∷ bare 3 0
-    ∷ absent
-    ∷ absent
-    ∷ reply 0 I
-    ∷ reply 8 S
-    ∷ absent
-    ∷ request 1
+    0
+    ∷ 0
+    ∷ 0x1122070000000000
+    ∷ 0
+    ∷ 0
+    ∷ 0
+    ∷ 0
+    ∷ 0
+    ∷ 0
+    ∷ 0
+    ∷ 0
+    ∷ 0
+    ∷ 0x31aa770010000000
+    ∷ 0x1122000010000000
+    ∷ 0
+    ∷ 0
+    ∷ 0x212200f010000000
+    ∷ 0x212200f010000000
+    ∷ 0x212200f010000000
+    ∷ 0x2122770010000000
+    ∷ 0x21aa770010000000
+    ∷ 0x3008000001011001
+    ∷ 0x3008000001000001
+    ∷ 0x3000000001000001
+    ∷ 0x3088000000000000
+    ∷ 0x3000000000000000
+    ∷ 0
+    ∷ 0
+    ∷ 0x2000000001003130
+    ∷ 0x2088000001113130
+    ∷ 0
+    ∷ 0x1122070100000000
     ∷ []
 
-all-entries : from rowOf 0 32 ≡ table
-unfolding rowOf
+unfoldable rowIn : ℕ → Row
+rowIn k = rowAt (getD table k 0)
+
+all-entries : from rowIn 0 32 ≡ from rowOf 0 32
+unfolding rowOf rowAt rowIn
 all-entries = refl
 
--- a type t with the number k has the row at k
-pub entry : (k t : ℕ) → T (ltb k 32) → t ≡ k → getD table k absent ≡ rowOf t
-entry k t b e =
-    ap (λ (rows : List Row). getD rows k absent) (sym all-entries)
-    ∙ getD-from rowOf 32 0 k absent (ltb→lt k 32 b)
-    ∙ ap rowOf (zero-add k ∙ sym e)
+-- a type t with the number k has the row that the entry at k says
+pub entry : (k t : ℕ) → T (ltb k 32) → t ≡ k → rowAt (getD table k 0) ≡ rowOf t
+unfolding rowIn
+entry k t b e = at rowIn rowOf 32 all-entries k (ltb→lt k 32 b) ∙ ap rowOf (sym e)
 
 -- no type from 32 on is in the table: a test over its types
 small : List ℕ → Bool

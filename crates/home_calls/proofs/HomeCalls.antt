@@ -16,7 +16,8 @@ use Rattle.words.specs.declared.Pair.{Pair}
 use Rattle.words.specs.declared.TileBlock.{TileBlock}
 use Rattle.words.specs.declared.HomeBlock.{HomeBlock}
 use Rattle.words.specs.Blocks as blocks
-use Rattle.words.specs.Blocks.{over, homeAt, homeWords, tileWords, HomeFull, TileFull}
+use Rattle.words.specs.Blocks.{over, homeAt, homeWords, pairWords, tileWords, HomeFull, TileFull}
+use Rattle.words.proofs.Reading.{tile-full}
 use Rattle.protocol.specs.Parts.{Words, Queue, Request, Forward, Reply, ToMemory, FromMemory, Tile, tileOf, Line, Home, idle, awaitingLoad, awaitingOwner, awaitingAcks, awaitingStore, reading, writing, request, eviction, clearForStore, clearForEviction, Bench, benchOf, Call, taking, fromTile, memoryStep, memoryAck, homeEviction, Result, refused, accepted}
 use Rattle.protocol.specs.Bench as rules
 use Rattle.protocol.specs.Bench.{freshTile, tileAt, step, front, rest, noc1, noc3, popNoc1, popNoc3, fromTileOn, takingOn, takeFrom, arbitrate}
@@ -39,13 +40,21 @@ use Rattle.bench_words.specs.Survey.{surveyOf}
 use Rattle.bench_words.proofs.Guard.{survey-ok}
 use Rattle.bench_words.proofs.Ready.{survey-ready}
 use Rattle.posts.specs.Post.{rooms, Committed}
-use Rattle.home_calls.specs.Taken.{homeStepOn, popped1, popped3, choice, chosen}
+use Rattle.home_calls.specs.Taken.{homeStepOn, choice, chosen}
 use Rattle.bench_words.proofs.Laid.{Laid, laid-tile, write-tile}
 use Rattle.bench_words.proofs.Decoded.{Found, found, count, laid-out}
 use Rattle.bench_words.proofs.Meets.{Meets}
 use Rattle.posts.proofs.Posted.{allRoom, rooms-tiles}
 use Rattle.posts.proofs.Commits.{committed}
+use Rattle.posts.proofs.Places.{pop-full, over-noc1, over-noc3}
 use Rattle.home_calls.proofs.Searched.{optionOf, searched, choice-below, ready-chosen}
+
+-- a tile without the front of its NoC1, or of its NoC3
+unfoldable popped1 : TileBlock → TileBlock
+popped1 x = headed (x .head) (pop (x .noc1)) (x .noc2) (x .noc3)
+
+unfoldable popped3 : TileBlock → TileBlock
+popped3 x = headed (x .head) (x .noc1) (x .noc2) (pop (x .noc3))
 
 -- a home in another phase than 0 is not idle
 waiting : (p : ℕ) (x : Row) (q u : ℕ) → eqb p 0 ≡ false → (t k : ℕ) (mem : Words) (o : Queue ToMemory) (b : Queue FromMemory) (us : List Tile) (m : ℕ) → step taking (benchOf (decHome m p x q u) t k mem o b us) ≡ refused 6
@@ -157,9 +166,9 @@ module _ (l : List ℕ) (h : wellFormed l ≡ true) where
       go false true = ack-spread home last marks memory out back ts
       go false false = evict-spread home last marks memory out back ts ∙ ap (λ (z : ℕ). spread 0 (evictedHome z home last marks memory out back) ts) tiles-counted
 
-  pub home-done : (c : ℕ) (s : HomeStep) → s ≡ homeStepOn c H → (a : Answer) (m : List ℕ) → Committed l l n 0 s (Unit {0}) a m → Meets l (stepOn l (homeCall c)) a m
+  pub home-done : (c : ℕ) (s : HomeStep) → s ≡ homeStepOn c H → (a : Answer) (m : List ℕ) → Committed l l n 0 s a m → Meets l (stepOn l (homeCall c)) a m
   home-done c s is a m made =
-      committed l l (homeCall c) 0 s (Unit {0}) a m h (result c) B ts tiles-counted (λ _. laid) (result-sends c) (is ∙ result-is c) (result-step c) (room-as (s .to)) made
+      committed l l (homeCall c) 0 s a m h (result c) B ts tiles-counted laid (result-sends c) (is ∙ result-is c) (result-step c) (room-as (s .to)) made
 
   -- a tile without the front of a queue
   pop1 : (x : Tile) → popped1 (encTile x) ≡ encTile (popNoc1 x)
@@ -263,24 +272,53 @@ module _ (l : List ℕ) (h : wellFormed l ≡ true) where
             rw z (ap (λ (u : Tile). encTile u .noc2) (getD-set-same ts t y freshTile inside) ∙ e)
         here false q = ap (λ (u : Tile). encTile u .noc2) (getD-set-other ts t i y freshTile (eqb-false i t q))
 
-    laid-with : (y : Tile) (b : TileBlock) → b ≡ encTile y → TileFull b → Laid (over l place (tileWords b)) H (set ts t y) r
-    laid-with y b e f = subst (λ (z : TileBlock). Laid (over l place (tileWords z)) H (set ts t y) r) (sym e) (write-tile l H ts r laid t y inside (subst TileFull e f))
+    whole : place + 84 ≤ length l
+    whole = omega (arith, found l h .enough)
+
+    -- tile t with the front of a queue taken off in place
+    laid-with : (y : Tile) (b : TileBlock) (k : List ℕ) → b ≡ encTile y → TileFull b → k ≡ over l place (tileWords b) → Laid k H (set ts t y) r
+    laid-with y b k e f w =
+        subst (λ (z : List ℕ). Laid z H (set ts t y) r) (sym (w ∙ ap (λ (z : TileBlock). over l place (tileWords z)) e)) (write-tile l H ts r laid t y inside (subst TileFull e f))
+
+    laid-1 : Laid (over l (place + 12) (pairWords (pop (blocks.pairAt l (place + 12))))) H (set ts t (popNoc1 x)) r
+    unfolding popped1 blocks.tileAt
+    laid-1 =
+        let f = tile-full l place whole in
+        let g = pop-full (blocks.pairAt l (place + 12)) (f .noc1-full) in
+        laid-with (popNoc1 x) (popped1 (blocks.tileAt l place)) _ (ap popped1 tile-block ∙ pop1 x) (record { head-full = f .head-full; noc1-full = g; noc2-full = f .noc2-full; noc3-full = f .noc3-full })
+        (sym (over-noc1 l place whole (pop (blocks.pairAt l (place + 12))) g))
+
+    laid-3 : Laid (over l (place + 60) (pairWords (pop (blocks.pairAt l (place + 60))))) H (set ts t (popNoc3 x)) r
+    unfolding popped3 blocks.tileAt
+    laid-3 =
+        let f = tile-full l place whole in
+        let g = pop-full (blocks.pairAt l (place + 60)) (f .noc3-full) in
+        laid-with (popNoc3 x) (popped3 (blocks.tileAt l place)) _ (ap popped3 tile-block ∙ pop3 x) (record { head-full = f .head-full; noc1-full = f .noc1-full; noc2-full = f .noc2-full; noc3-full = g })
+        (sym (over-noc3 l place whole (pop (blocks.pairAt l (place + 60))) g))
+
+    -- the front of a queue, read in place
+    row-1 : blocks.rowAt l (place + 12) ≡ encTile x .noc1 .a
+    unfolding blocks.tileAt blocks.pairAt
+    row-1 = ap (λ (z : TileBlock). z .noc1 .a) tile-block
+
+    row-3 : blocks.rowAt l (place + 60) ≡ encTile x .noc3 .a
+    unfolding blocks.tileAt blocks.pairAt
+    row-3 = ap (λ (z : TileBlock). z .noc3 .a) tile-block
 
     from-step : step (fromTile t) (decoded l) ≡ rules.accept t (front (noc3 x)) home last marks memory out back (set ts t (popNoc3 x))
     unfolding step fromTileOn
     from-step = ap (step (fromTile t)) read-as ∙ rw (lt-ltb t (length ts) inside)
 
     -- delivery from tile t
-    pub from-done : (s : HomeStep) → s ≡ numbers.accept H t (blocks.tileAt l place .noc3 .a) → (b : TileBlock) → b ≡ popped3 (blocks.tileAt l place) → (a : Answer) (m : List ℕ) →
-        Committed l (over l place (tileWords b)) n 0 s (TileFull b) a m → Meets l (stepOn l (fromTile t)) a m
-    from-done s is b bs a m made =
+    pub from-done : (s : HomeStep) → s ≡ numbers.accept H t (blocks.rowAt l (place + 60)) → (a : Answer) (m : List ℕ) →
+        Committed l (over l (place + 60) (pairWords (pop (blocks.pairAt l (place + 60))))) n 0 s a m → Meets l (stepOn l (fromTile t)) a m
+    from-done s is a m made =
         let y : Tile = popNoc3 x in
-        let e : b ≡ encTile y = bs ∙ ap popped3 tile-block ∙ pop3 x in
         let numbers-are : s ≡ encStep n B (acceptedHome t (front (noc3 x)) home last marks memory out back) =
-        is ∙ ap (λ (z : TileBlock). numbers.accept H t (z .noc3 .a)) tile-block ∙ ap (numbers.accept H t) (front3 x) ∙ ap (λ (z : HomeBlock). numbers.accept z t (encFront encReply (front (noc3 x)))) block
+        is ∙ ap (numbers.accept H t) (row-3 ∙ front3 x) ∙ ap (λ (z : HomeBlock). numbers.accept z t (encFront encReply (front (noc3 x)))) block
         ∙ accept-is n t (found l h .most) below (front (noc3 x)) home in-range last marks memory out back in
         let by-step : step (fromTile t) (decoded l) ≡ spread 0 (acceptedHome t (front (noc3 x)) home last marks memory out back) (set ts t y) = from-step ∙ accept-spread t (front (noc3 x)) home last marks memory out back (set ts t y) in
-        committed l (over l place (tileWords b)) (fromTile t) 0 s (TileFull b) a m h (acceptedHome t (front (noc3 x)) home last marks memory out back) B (set ts t y) (length-set ts t y ∙ tiles-counted) (laid-with y b e)
+        committed l _ (fromTile t) 0 s a m h (acceptedHome t (front (noc3 x)) home last marks memory out back) B (set ts t y) (length-set ts t y ∙ tiles-counted) laid-3
         (accept-sends n t (front (noc3 x)) home in-range last marks memory out back) numbers-are by-step (room-as (s .to) ∙ sym (room-with y (same2-3 x) (s .to) n 0)) made
 
     -- taking of tile t, where it is the one found
@@ -299,18 +337,17 @@ module _ (l : List ℕ) (h : wellFormed l ≡ true) where
       unfolding step takingOn takeFrom
       take-step = ap (step taking) (read-as ∙ ap (λ (z : Home). benchOf z last marks memory out back ts) home-idle) ∙ ap (λ (o : Option ℕ). takeFrom o line marks memory out back ts) (found-here t below chosen)
 
-      pub take-done : (s : HomeStep) → s ≡ numbers.take H t (blocks.tileAt l place .noc1 .a) → (b : TileBlock) → b ≡ popped1 (blocks.tileAt l place) → (a : Answer) (m : List ℕ) →
-          Committed l (over l place (tileWords b)) n t s (TileFull b) a m → Meets l (stepOn l taking) a m
-      take-done s is b bs a m made =
+      pub take-done : (s : HomeStep) → s ≡ numbers.take H t (blocks.rowAt l (place + 12)) → (a : Answer) (m : List ℕ) →
+          Committed l (over l (place + 12) (pairWords (pop (blocks.pairAt l (place + 12))))) n t s a m → Meets l (stepOn l taking) a m
+      take-done s is a m made =
           let y : Tile = popNoc1 x in
-          let e : b ≡ encTile y = bs ∙ ap popped1 tile-block ∙ pop1 x in
           let numbers-are : s ≡ encStep n (encHome n (idle line) last marks memory out back) (takenHome n t (front (noc1 x)) line marks memory out back) =
-          is ∙ ap (λ (z : TileBlock). numbers.take H t (z .noc1 .a)) tile-block ∙ ap (numbers.take H t) (front1 x) ∙ ap (λ (z : HomeBlock). numbers.take z t (encFront encRequest (front (noc1 x)))) block-idle
+          is ∙ ap (numbers.take H t) (row-1 ∙ front1 x) ∙ ap (λ (z : HomeBlock). numbers.take z t (encFront encRequest (front (noc1 x)))) block-idle
           ∙ take-is n t (found l h .most) below (front (noc1 x)) line (line-in n (H .line) some-tile) last marks memory out back in
           let cnt : length (set ts t y) ≡ n = length-set ts t y ∙ tiles-counted in
           let by-step : step taking (decoded l) ≡ spread t (takenHome n t (front (noc1 x)) line marks memory out back) (set ts t y) =
           take-step ∙ take-spread t (front (noc1 x)) line marks memory out back (set ts t y) ∙ ap (λ (z : ℕ). spread t (takenHome z t (front (noc1 x)) line marks memory out back) (set ts t y)) cnt in
-          committed l (over l place (tileWords b)) taking t s (TileFull b) a m h (takenHome n t (front (noc1 x)) line marks memory out back) (encHome n (idle line) last marks memory out back) (set ts t y) cnt (laid-with y b e)
+          committed l _ taking t s a m h (takenHome n t (front (noc1 x)) line marks memory out back) (encHome n (idle line) last marks memory out back) (set ts t y) cnt laid-1
           (take-sends n t below (front (noc1 x)) line (line-in n (H .line) some-tile) marks memory out back) numbers-are by-step (room-as (s .to) ∙ sym (room-with y (same2-1 x) (s .to) n 0)) made
 
 -- what the code's survey tells of the words
@@ -322,18 +359,17 @@ module _ (l : List ℕ) (h : wellFormed l ≡ true) (hb : HomeBlock) (eh : hb �
   pub last-small : hb .control .n0 < getD l 0 0
   last-small = rw eh (last-below l h)
 
-  module _ (t : ℕ) (tb : TileBlock) (et : tb ≡ blocks.tileAt l (74 + 84 * t)) (s : HomeStep) (b : TileBlock) (a : Answer) (m : List ℕ) where
-    pub from-call : t < getD l 0 0 → s ≡ numbers.accept hb t (tb .noc3 .a) → b ≡ popped3 tb → Committed l (over l (74 + 84 * t) (tileWords b)) (getD l 0 0) 0 s (TileFull b) a m → Meets l (stepOn l (fromTile t)) a m
-    from-call below is bs made =
-        from-done l h t below s (is ∙ ap (λ (z : TileBlock). numbers.accept hb t (z .noc3 .a)) et ∙ ap (λ (z : HomeBlock). numbers.accept z t (blocks.tileAt l (74 + 84 * t) .noc3 .a)) eh) b (bs ∙ ap popped3 et) a m made
+  module _ (t : ℕ) (mr : Row) (s : HomeStep) (a : Answer) (m : List ℕ) where
+    pub from-call : t < getD l 0 0 → mr ≡ blocks.rowAt l (74 + 84 * t + 60) → s ≡ numbers.accept hb t mr →
+        Committed l (over l (74 + 84 * t + 60) (pairWords (pop (blocks.pairAt l (74 + 84 * t + 60))))) (getD l 0 0) 0 s a m → Meets l (stepOn l (fromTile t)) a m
+    from-call below em is made = from-done l h t below s (is ∙ ap (numbers.accept hb t) em ∙ ap (λ (z : HomeBlock). numbers.accept z t (blocks.rowAt l (74 + 84 * t + 60))) eh) a m made
 
-    pub take-call : hb .phase ≡ 0 → t ≡ choice l (hb .control .n1) (hb .control .n0) (getD l 0 0) → t < 64 → s ≡ numbers.take hb t (tb .noc1 .a) → b ≡ popped1 tb →
-        Committed l (over l (74 + 84 * t) (tileWords b)) (getD l 0 0) t s (TileFull b) a m → Meets l (stepOn l taking) a m
-    take-call z e q is bs made =
+    pub take-call : hb .phase ≡ 0 → t ≡ choice l (hb .control .n1) (hb .control .n0) (getD l 0 0) → t < 64 → mr ≡ blocks.rowAt l (74 + 84 * t + 12) → s ≡ numbers.take hb t mr →
+        Committed l (over l (74 + 84 * t + 12) (pairWords (pop (blocks.pairAt l (74 + 84 * t + 12))))) (getD l 0 0) t s a m → Meets l (stepOn l taking) a m
+    take-call z e q em is made =
         let e′ : t ≡ choice l (homeAt l .control .n1) (homeAt l .control .n0) (getD l 0 0) = e ∙ ap (λ (y : HomeBlock). choice l (y .control .n1) (y .control .n0) (getD l 0 0)) eh in
         let below : t < getD l 0 0 = subst (λ (y : ℕ). y < getD l 0 0) (sym e′) (chosen-below l h (subst (λ (y : ℕ). y < 64) e′ q)) in
-        take-done l h t below (sym (ap (λ (y : HomeBlock). y .phase) eh) ∙ z) e′ s (is ∙ ap (λ (y : TileBlock). numbers.take hb t (y .noc1 .a)) et ∙ ap (λ (y : HomeBlock). numbers.take y t (blocks.tileAt l (74 + 84 * t) .noc1 .a)) eh) b
-        (bs ∙ ap popped1 et) a m made
+        take-done l h t below (sym (ap (λ (y : HomeBlock). y .phase) eh) ∙ z) e′ s (is ∙ ap (numbers.take hb t) em ∙ ap (λ (y : HomeBlock). numbers.take y t (blocks.rowAt l (74 + 84 * t + 12))) eh) a m made
 
   -- the tile that the code chooses, by the survey s
   pub chosen-by : (s : Survey) → s ≡ surveyOf l → (t : ℕ) → t ≡ chosen (s .ready) (hb .control .n0) → t ≡ choice l (hb .control .n1) (hb .control .n0) (getD l 0 0)

@@ -1,13 +1,11 @@
--- The round robin's search on the words, and the blocks that the home's calls work on. That this is document 01's step is proved
+-- The round robin's search on the words, and the steps of the home's calls. That this is document 01's step is proved
 -- (proofs/Searched.antt, proofs/HomeCalls.antt); no public contract rests on this file alone.
 use Prim.Native.Nat.{ℕ, suc, _+_, _-_}
 use mathlib.Core.Bool.{cond}
 use mathlib.Core.List.{List}
 use lib.Dec.{eqb, ltb}
 use Rattle.find_first.specs.Next.{next}
-use Rattle.words.specs.declared.TileBlock.{TileBlock}
 use Rattle.words.specs.declared.HomeBlock.{HomeBlock}
-use Rattle.tile_steps.specs.Steps.{pop, headed}
 use Rattle.home_parts.specs.declared.HomeStep.{HomeStep}
 use Rattle.home_parts.specs.Numbers.{memoryStep, memoryAck, evictLine}
 use Rattle.bench_words.specs.Survey.{canTake}
@@ -24,13 +22,6 @@ choice l k last n = cond (ltb (firstFrom l k (last + 1) (n - (last + 1))) 64) (f
 -- the same by the mask of the tiles that may be taken: the first beyond the last taken, else the first of all
 unfoldable pub chosen : ℕ → ℕ → ℕ
 chosen ready last = cond (ltb (next ready (last + 1)) 64) (next ready (last + 1)) (next ready 0)
-
--- a tile without the front of its NoC1, or of its NoC3
-unfoldable pub popped1 : TileBlock → TileBlock
-popped1 x = headed (x .head) (pop (x .noc1)) (x .noc2) (x .noc3)
-
-unfoldable pub popped3 : TileBlock → TileBlock
-popped3 x = headed (x .head) (x .noc1) (x .noc2) (pop (x .noc3))
 
 -- the calls at the home alone, by number: 0 memory step, 1 memory ack, else home eviction
 unfoldable pub homeStepOn : ℕ → HomeBlock → HomeStep

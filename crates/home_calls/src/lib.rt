@@ -3,11 +3,10 @@ ghost use mathlib.Core.Path.{_≡_};
 ghost use Prim.Native.Nat.{_<_};
 ghost use Rattle.protocol.specs.Parts.{taking, fromTile, memoryStep, memoryAck, homeEviction};
 ghost use Rattle.bench_words.specs.Calls.{stepOn, answerOf, wordsAfter, homeCall};
-ghost use Rattle.home_calls.specs.Taken.{chosen, popped1, popped3, homeStepOn};
+ghost use Rattle.home_calls.specs.Taken.{chosen, homeStepOn};
 use bench_words::Answer;
 use home_steps::HomeStep;
 use words::HomeBlock;
-use words::TileBlock;
 
 // Round robin among the tiles that may be taken: the first beyond the last taken, else the first of all; 64 for none.
 fn choose(ready: u64, last: u64) -> u64
@@ -66,20 +65,6 @@ pub fn home_eviction(w: &mut [u64]) -> Answer
     at_home(w, 2)
 }
 
-fn popped3(x: TileBlock) -> TileBlock
-    ensures { λ r. ⌜ r ≡ popped3 x ⌝ }
-{
-    let q = tile_steps::pop(x.noc3);
-    tile_steps::headed(x.head, x.noc1, x.noc2, q)
-}
-
-fn popped1(x: TileBlock) -> TileBlock
-    ensures { λ r. ⌜ r ≡ popped1 x ⌝ }
-{
-    let q = tile_steps::pop(x.noc1);
-    tile_steps::headed(x.head, q, x.noc2, x.noc3)
-}
-
 // Delivery from tile t, of the front message of its NoC3 queue.
 pub fn from_tile(w: &mut [u64], t: u64) -> Answer
     ensures answer { λ r. ⌜ r ≡ answerOf (stepOn (now (w .entry)) (fromTile t)) ⌝ }
@@ -91,11 +76,9 @@ pub fn from_tile(w: &mut [u64], t: u64) -> Answer
         if t < n {
             let at = 74 + 84 * (t as usize);
             let h = words::read_home(w);
-            let x = words::read_tile(w, at);
-            let q = x.noc3;
-            let s = home_steps::accept(h, t, q.a);
-            let y = popped3(x);
-            posts::commit_with(w, n, 0, s, at, y)
+            let m = words::read_row(w, at + 60);
+            let s = home_steps::accept(h, t, m);
+            posts::commit_with(w, n, 0, s, at + 60)
         } else {
             bench_words::refused(2)
         }
@@ -118,11 +101,9 @@ pub fn taking(w: &mut [u64]) -> Answer
             let t = choose(s.ready, k.n0);
             if t < 64 {
                 let at = 74 + 84 * (t as usize);
-                let x = words::read_tile(w, at);
-                let q = x.noc1;
-                let done = home_steps::take(h, t, q.a);
-                let y = popped1(x);
-                posts::commit_with(w, n, t, done, at, y)
+                let m = words::read_row(w, at + 12);
+                let done = home_steps::take(h, t, m);
+                posts::commit_with(w, n, t, done, at + 12)
             } else {
                 bench_words::refused(7)
             }

@@ -28,26 +28,26 @@ use Rattle.bench_words.proofs.Meets.{Meets}
 use Rattle.posts.proofs.Posted.{allRoom, rooms-tiles}
 use Rattle.posts.proofs.Finished.{Finished, stopped-by, no-room, finished}
 
-module _ (l k : List ℕ) (n v : ℕ) (s : HomeStep) (P : Type 0) (a : Answer) (m : List ℕ) where
-  pub is-stopped : (s .refusal ≡ 0 → ⊥) → a ≡ refusal (s .refusal) → m ≡ l → Committed l k n v s P a m
+module _ (l k : List ℕ) (n v : ℕ) (s : HomeStep) (a : Answer) (m : List ℕ) where
+  pub is-stopped : (s .refusal ≡ 0 → ⊥) → a ≡ refusal (s .refusal) → m ≡ l → Committed l k n v s a m
   is-stopped wrong e w = record { stops = λ _. (e, w); no-room = λ z. absurd (wrong z); done = λ z. absurd (wrong z) }
 
-  pub is-full : s .refusal ≡ 0 → rooms true l 74 0 (s .to) n ≡ false → a ≡ refusal 9 → m ≡ l → Committed l k n v s P a m
+  pub is-full : s .refusal ≡ 0 → rooms true l 74 0 (s .to) n ≡ false → a ≡ refusal 9 → m ≡ l → Committed l k n v s a m
   is-full z f e w = record { stops = λ wrong. absurd (wrong z); no-room = λ _ _. (e, w); done = λ _ t. absurd (false≢true (sym f ∙ t)) }
 
-  pub is-done : s .refusal ≡ 0 → rooms true l 74 0 (s .to) n ≡ true → a ≡ homeAnswer s v → m ≡ tellAll (over k 0 (homeWords (s .home))) 74 0 (s .to) (s .forward) n → HomeFull (s .home) → length (s .forward .words) ≡ 8 → P →
-      Committed l k n v s P a m
-  is-done z t e w full eight p = record { stops = λ wrong. absurd (wrong z); no-room = λ _ f. absurd (false≢true (sym f ∙ t)); done = λ _ _. (e, w, full, eight, p) }
+  pub is-done : s .refusal ≡ 0 → rooms true l 74 0 (s .to) n ≡ true → a ≡ homeAnswer s v → m ≡ tellAll (over k 0 (homeWords (s .home))) 74 0 (s .to) (s .forward) n → HomeFull (s .home) → length (s .forward .words) ≡ 8 →
+      Committed l k n v s a m
+  is-done z t e w full eight = record { stops = λ wrong. absurd (wrong z); no-room = λ _ f. absurd (false≢true (sym f ∙ t)); done = λ _ _. (e, w, full, eight) }
 
 -- a committed step is the call's step: R is the home's result, ts the tiles on which it acts
-module _ (l k : List ℕ) (c : Call) (v : ℕ) (s : HomeStep) (P : Type 0) (a : Answer) (m : List ℕ) (h : wellFormed l ≡ true) (R : HomeResult) (B : HomeBlock) (ts : List Tile) where
+module _ (l k : List ℕ) (c : Call) (v : ℕ) (s : HomeStep) (a : Answer) (m : List ℕ) (h : wellFormed l ≡ true) (R : HomeResult) (B : HomeBlock) (ts : List Tile) where
   abbrev n : ℕ
   n = getD l 0 0
 
   abbrev r : List ℕ
   r = drop (need n) l
 
-  pub committed : length ts ≡ n → (P → Laid k (homeAt l) ts r) → Sends n R → s ≡ encStep n B R → step c (decoded l) ≡ spread v R ts → rooms true l 74 0 (s .to) n ≡ allRoom ts 0 (s .to) n → Committed l k n v s P a m →
+  pub committed : length ts ≡ n → Laid k (homeAt l) ts r → Sends n R → s ≡ encStep n B R → step c (decoded l) ≡ spread v R ts → rooms true l 74 0 (s .to) n ≡ allRoom ts 0 (s .to) n → Committed l k n v s a m →
       Meets l (stepOn l c) a m
   unfolding stepOn answerOf wordsAfter
   committed cnt lay snd is by rm made = rw (h, by) (go (eqb (s .refusal) 0) refl (rooms true l 74 0 (s .to) n) refl)
@@ -64,5 +64,5 @@ module _ (l k : List ℕ) (c : Call) (v : ℕ) (s : HomeStep) (P : Type 0) (a : 
           rw (no-room n small B s v ts cnt R snd is (eqb-true (s .refusal) 0 ez) (sym rm ∙ eb)) (record { answer = w .0; words = w .1 })
       go true ez true eb =
           let w = made .done (eqb-true (s .refusal) 0 ez) eb in
-          let f = finished n small B s v ts cnt k r (homeAt l) (lay (w .4)) (w .2) (w .3) R snd is (eqb-true (s .refusal) 0 ez) (sym rm ∙ eb) in
+          let f = finished n small B s v ts cnt k r (homeAt l) lay (w .2) (w .3) R snd is (eqb-true (s .refusal) 0 ez) (sym rm ∙ eb) in
           rw (f .by-rules) (record { answer = w .0 ∙ (λ i. record { refusal = 0; kind = s .kind; value = v; sent = sym (f .on) i; tiles = sym (f .to) i }); words = w .1 ∙ f .words })

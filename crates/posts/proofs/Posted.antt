@@ -26,6 +26,7 @@ use Rattle.tile_steps.specs.Steps.{room, push, headed}
 use Rattle.tile_steps.proofs.Rules.{forward-kind}
 use Rattle.home_steps.specs.Rules.{forwardOne, forwardTo, forwardAll, told}
 use Rattle.posts.specs.Post.{oneRoom, rooms, toldTile, tellOne, tellAll}
+use Rattle.posts.proofs.Places.{push-full}
 use Rattle.posts.proofs.Turns.{and-true, next-place}
 use Rattle.bench_words.proofs.Laid.{AllFull, Laid, laid-tile, write-tile}
 
@@ -135,14 +136,6 @@ not-told to f (suc j) i ts h = go (has to i) h (λ us. not-told to f j (suc i) u
     go false n ih = ih ts n
 
 -- a tile that is told something still has rows of eight words
-push-full : (q : Pair) (m : Row) → PairFull q → length (m .words) ≡ 8 → PairFull (push q m)
-unfolding push
-push-full q m f n = go (eqb (q .a .n0) 0)
-  where
-    go : (b : Bool) → PairFull (cond b (record { a = m; b = noRow }) (record { a = q .a; b = m }))
-    go true = record { first = n; second = refl }
-    go false = record { first = f .first; second = n }
-
 told-full : (m : Row) (x : TileBlock) → length (m .words) ≡ 8 → TileFull x → TileFull (toldTile m x)
 unfolding toldTile
 told-full m x n f = record { head-full = f .head-full; noc1-full = f .noc1-full; noc2-full = push-full (x .noc2) m (f .noc2-full) n; noc3-full = f .noc3-full }

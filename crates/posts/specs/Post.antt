@@ -39,9 +39,9 @@ abbrev pub homeAnswer : HomeStep → ℕ → Answer
 homeAnswer s v = record { refusal = 0; kind = s .kind; value = v; sent = s .sent; tiles = s .to }
 
 -- A home step s committed to words l of n tiles, with k the words that it is written over, a the answer and m the words after it:
--- refused, refused 9 for want of room, or done; P is what else is known where it is done.
-pub record Committed (l k : List ℕ) (n v : ℕ) (s : HomeStep) (P : Type 0) (a : Answer) (m : List ℕ) : Type 0 where
+-- refused, refused 9 for want of room, or done.
+pub record Committed (l k : List ℕ) (n v : ℕ) (s : HomeStep) (a : Answer) (m : List ℕ) : Type 0 where
   pub stops : (s .refusal ≡ 0 → ⊥) → (a ≡ refusal (s .refusal)) × (m ≡ l)
   pub no-room : s .refusal ≡ 0 → rooms true l 74 0 (s .to) n ≡ false → (a ≡ refusal 9) × (m ≡ l)
   pub done : s .refusal ≡ 0 → rooms true l 74 0 (s .to) n ≡ true →
-      (a ≡ homeAnswer s v) × (m ≡ tellAll (over k 0 (homeWords (s .home))) 74 0 (s .to) (s .forward) n) × HomeFull (s .home) × (length (s .forward .words) ≡ 8) × P
+      (a ≡ homeAnswer s v) × (m ≡ tellAll (over k 0 (homeWords (s .home))) 74 0 (s .to) (s .forward) n) × HomeFull (s .home) × (length (s .forward .words) ≡ 8)

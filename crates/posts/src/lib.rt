@@ -3,22 +3,20 @@ ghost use mathlib.Core.Path.{_≡_};
 ghost use mathlib.Core.Bool.{true};
 ghost use Prim.Native.Nat.{_+_, _*_, _≤_, _<_};
 ghost use lib.ListN.{length};
-ghost use Rattle.tile_steps.specs.Steps.{room};
-ghost use Rattle.words.specs.Blocks.{tileAt, over, tileWords, homeWords, TileFull, HomeFull};
+ghost use Rattle.tile_steps.specs.Steps.{room, push, pop};
+ghost use Rattle.words.specs.Blocks.{pairAt, tileAt, over, pairWords, tileWords, homeWords, HomeFull};
 ghost use Rattle.bench_words.specs.Calls.{need};
 ghost use Rattle.posts.specs.Post.{rooms, toldTile, tellAll, homeAnswer, Committed};
 use bench_words::Answer;
 use home_steps::HomeStep;
 use words::Row;
-use words::TileBlock;
 
 fn one_room(w: &[u64], i: u64) -> bool
     requires { ⌜ (need (i + 1) ≤ length (now w)) × (i < 64) ⌝ }
     ensures { λ r. ⌜ r ≡ room (tileAt (now (w .entry)) (74 + 84 * i) .noc2) ⌝ }
 {
     let at = 74 + 84 * (i as usize);
-    let q = words::read_pair(w, at + 36);
-    tile_steps::room(q)
+    w[at + 48] == 0
 }
 
 // Is there room on NoC2 of every tile of the mask?
@@ -35,20 +33,35 @@ fn rooms(w: &[u64], n: u64, to: u64) -> bool
     ok
 }
 
-fn told_tile(m: Row, x: TileBlock) -> TileBlock
-    ensures { λ r. ⌜ r ≡ toldTile m x ⌝ }
+// The message m put on the queue at place `at`.
+fn push_at(w: &mut [u64], at: usize, m: Row)
+    requires { ⌜ at + 24 ≤ length (now w) ⌝ }
+    ensures { λ _. ⌜ now (w .exit) ≡ over (now (w .entry)) at (pairWords (push (pairAt (now (w .entry)) at) m)) ⌝ }
+    ensures full { λ _. ⌜ length (m .words) ≡ 8 ⌝ }
 {
-    let q = tile_steps::push(x.noc2, m);
-    tile_steps::headed(x.head, x.noc1, q, x.noc3)
+    if w[at] == 0 {
+        words::write_row(w, at, m);
+        words::write_row(w, at + 12, tile_steps::bare(0, 0, 0, 0));
+    } else {
+        words::write_row(w, at + 12, m);
+    }
+}
+
+// The front of the queue at place `at` taken off.
+fn pop_at(w: &mut [u64], at: usize)
+    requires { ⌜ at + 24 ≤ length (now w) ⌝ }
+    ensures { λ _. ⌜ now (w .exit) ≡ over (now (w .entry)) at (pairWords (pop (pairAt (now (w .entry)) at))) ⌝ }
+{
+    let b = words::read_row(w, at + 12);
+    words::write_row(w, at, b);
+    words::write_row(w, at + 12, tile_steps::bare(0, 0, 0, 0));
 }
 
 fn tell_one(w: &mut [u64], i: u64, m: Row)
     requires { ⌜ (need (i + 1) ≤ length (now w)) × (i < 64) ⌝ }
     ensures { λ _. ⌜ now (w .exit) ≡ over (now (w .entry)) (74 + 84 * i) (tileWords (toldTile m (tileAt (now (w .entry)) (74 + 84 * i)))) ⌝ }
 {
-    let at = 74 + 84 * (i as usize);
-    let x = words::read_tile(w, at);
-    words::write_tile(w, at, told_tile(m, x));
+    push_at(w, 74 + 84 * (i as usize) + 36, m);
 }
 
 // Puts the message m on NoC2 of every tile of the mask.
@@ -90,7 +103,7 @@ fn finish(w: &mut [u64], n: u64, s: HomeStep)
 // A home step that concerns no tile's own queues.
 pub fn commit(w: &mut [u64], n: u64, v: u64, s: HomeStep) -> Answer
     requires { ⌜ (need n ≤ length (now w)) × (n ≤ 64) ⌝ }
-    ensures { λ r. ⌜ Committed (now (w .entry)) (now (w .entry)) n v s (Unit {0}) r (now (w .exit)) ⌝ }
+    ensures { λ r. ⌜ Committed (now (w .entry)) (now (w .entry)) n v s r (now (w .exit)) ⌝ }
 {
     if s.refusal == 0 {
         let free = rooms(w, n, s.to);
@@ -105,15 +118,15 @@ pub fn commit(w: &mut [u64], n: u64, v: u64, s: HomeStep) -> Answer
     }
 }
 
-// A home step that takes a message off a queue of the tile at place `at`, which leaves its block as x.
-pub fn commit_with(w: &mut [u64], n: u64, v: u64, s: HomeStep, at: usize, x: TileBlock) -> Answer
-    requires { ⌜ (need n ≤ length (now w)) × (n ≤ 64) × (at + 84 ≤ length (now w)) ⌝ }
-    ensures { λ r. ⌜ Committed (now (w .entry)) (over (now (w .entry)) at (tileWords x)) n v s (TileFull x) r (now (w .exit)) ⌝ }
+// A home step that takes the front message off the queue at place `at`.
+pub fn commit_with(w: &mut [u64], n: u64, v: u64, s: HomeStep, at: usize) -> Answer
+    requires { ⌜ (need n ≤ length (now w)) × (n ≤ 64) × (at + 24 ≤ length (now w)) ⌝ }
+    ensures { λ r. ⌜ Committed (now (w .entry)) (over (now (w .entry)) at (pairWords (pop (pairAt (now (w .entry)) at)))) n v s r (now (w .exit)) ⌝ }
 {
     if s.refusal == 0 {
         let free = rooms(w, n, s.to);
         if free {
-            words::write_tile(w, at, x);
+            pop_at(w, at);
             finish(w, n, s);
             home_answer(s, v)
         } else {

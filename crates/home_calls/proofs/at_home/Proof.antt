@@ -4,7 +4,7 @@ use native.Mathlib.Omega.{arith}
 use Rattle.words.specs.declared.HomeBlock.{HomeBlock}
 use Rattle.words.specs.declared.TileBlock.{TileBlock}
 use Rattle.bench_words.specs.Calls.{homeCall}
-use Rattle.home_calls.specs.Taken.{homeStepOn, popped1, popped3, choice}
+use Rattle.home_calls.specs.Taken.{homeStepOn}
 use Rattle.bench_words.proofs.Decoded.{found}
 use Rattle.bench_words.proofs.Meets.{malformed}
 use Rattle.home_calls.proofs.HomeCalls.{home-done}

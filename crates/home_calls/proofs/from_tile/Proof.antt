@@ -1,13 +1,9 @@
 use Prim.Native.Nat.{_<_}
-use mathlib.Core.Path.{refl, ap, sym, subst, _∙_}
+use mathlib.Core.Path.{sym, _∙_}
 use native.Mathlib.Omega.{arith}
-use Rattle.words.specs.declared.HomeBlock.{HomeBlock}
-use Rattle.words.specs.declared.TileBlock.{TileBlock}
-use Rattle.bench_words.specs.Calls.{homeCall}
-use Rattle.home_calls.specs.Taken.{homeStepOn, popped1, popped3, choice}
 use Rattle.bench_words.proofs.Decoded.{found}
 use Rattle.bench_words.proofs.Meets.{malformed}
-use Rattle.home_calls.proofs.HomeCalls.{home-done, from-call, take-call, nobody-call, busy-call, no-from, last-small, chosen-small}
+use Rattle.home_calls.proofs.HomeCalls.{from-call, no-from}
 use Rattle.protocol.specs.Parts.{fromTile}
 use borrow.Author.Needs.{needs}
 use Rattle.home_calls.proofs.from_tile.Statement.{statement}
@@ -25,16 +21,25 @@ add-at c = omega (arith, found _ (sym (c .before .before .before .well-formed .e
 read-home-requires : tie.Need-read-home-requires
 read-home-requires c κs = omega (arith, found _ (sym (c .before .before .before .before .well-formed .ensures) ∙ c .before .before .before .if1 .taken) .long)
 
-read-tile-requires : tie.Need-read-tile-requires
-read-tile-requires c κs = omega (arith, found _ (sym (c .before .before .before .before .before .before .well-formed .ensures) ∙ c .before .before .before .before .before .if1 .taken) .enough)
+add-read-row : tie.Need-add-read-row
+add-read-row c = omega (arith, found _ (sym (c .before .before .before .before .before .before .well-formed .ensures) ∙ c .before .before .before .before .before .if1 .taken) .most)
+
+read-row-requires : tie.Need-read-row-requires
+read-row-requires c κs = omega (arith, found _ (sym (c .before .before .before .before .before .before .well-formed .ensures) ∙ c .before .before .before .before .before .if1 .taken) .enough)
+
+add-commit-with : tie.Need-add-commit-with
+add-commit-with c = omega (arith, found _ (sym (c .before .before .before .before .before .before .before .before .before .well-formed .ensures) ∙ c .before .before .before .before .before .before .before .before .if1 .taken) .most)
 
 commit-with-requires : tie.Need-commit-with-requires
-commit-with-requires c κs = (found _ (sym (c .before .before .before .before .before .before .before .before .before .before .before .well-formed .ensures) ∙ c .before .before .before .before .before .before .before .before .before .before .if1 .taken) .enough, found _ (sym (c .before .before .before .before .before .before .before .before .before .before .before .well-formed .ensures) ∙ c .before .before .before .before .before .before .before .before .before .before .if1 .taken) .most, omega (arith, found _ (sym (c .before .before .before .before .before .before .before .before .before .before .before .well-formed .ensures) ∙ c .before .before .before .before .before .before .before .before .before .before .if1 .taken) .enough))
+commit-with-requires c κs =
+    let f = found _ (sym (c .before .before .before .before .before .before .before .before .before .well-formed .ensures) ∙ c .before .before .before .before .before .before .before .before .if1 .taken) in
+    (f .enough, f .most, omega (arith, f .enough))
 
 returns : tie.Need-returns
 returns c =
-    let m = from-call (c .before .before .before .before .before .before .before .before .before .before .before .before .before .before .before .before .before .args .w .now) (sym (c .before .before .before .before .before .before .before .before .before .before .before .before .before .before .well-formed .ensures) ∙ c .before .before .before .before .before .before .before .before .before .before .before .before .before .if1 .taken) (c .before .before .before .before .before .before .before .before .before .read-home .result) (c .before .before .before .before .before .before .before .before .before .read-home .ensures) (c .before .before .before .before .before .before .before .before .before .before .before .before .before .before .before .before .before .args .t) (c .before .before .before .before .before .before .before .read-tile .result) (c .before .before .before .before .before .before .before .read-tile .ensures) (c .before .before .before .before .before .accept .result) (c .before .before .before .before .popped3 .result) _ _ (c .before .before .before .before .before .before .before .before .before .before .before .if2 .taken)
-    (c .before .before .before .before .before .accept .ensures) (c .before .before .before .before .popped3 .ensures) (c .before .before .commit-with .ensures) in
+    let a = c .before .before .before .before .before .before .before .before .before .before .before .before .before .before .before .args in
+    let h = c .before .before .before .before .before .before .before .read-home in
+    let m = from-call (a .w .now) (sym (c .before .before .before .before .before .before .before .before .before .before .before .before .well-formed .ensures) ∙ c .before .before .before .before .before .before .before .before .before .before .before .if1 .taken) (h .result) (h .ensures) (a .t) _ _ _ _ (c .before .before .before .before .before .before .before .before .before .if2 .taken) (c .before .before .before .before .before .read-row .ensures) (c .before .before .before .before .accept .ensures) (c .before .before .commit-with .ensures) in
     (m .answer, m .words)
 
 returns-2 : tie.Need-returns-2
@@ -56,9 +61,10 @@ from-tile-spec =
     mul-at
     add-at
     read-home-requires
-    read-tile-requires
+    add-read-row
+    read-row-requires
     (λ c κs. search needs)
-    (λ c κs. search needs)
+    add-commit-with
     commit-with-requires
     (λ c κs. search needs)
     (λ c κs. search needs)

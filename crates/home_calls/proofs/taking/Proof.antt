@@ -15,78 +15,81 @@ use Rattle.home_calls.proofs.taking.Tie as tie
 slice-read-n : tie.Need-slice-read-n
 slice-read-n c =
     let l = c .before .before .before .before .before .args .w .now in
-    let wf : wellFormed l ≡ true = formed l (c .before .before .survey-of .result) true (c .before .before .survey-of .ensures) (c .before .if1 .taken) in
+    let sv = c .before .before .survey-of in
+    let wf : wellFormed l ≡ true = formed l (sv .result) true (sv .ensures) (c .before .if1 .taken) in
     omega (arith, found l wf .long)
 
 read-home-requires : tie.Need-read-home-requires
 read-home-requires c κs =
     let l = c .before .before .before .before .before .before .args .w .now in
-    let wf : wellFormed l ≡ true = formed l (c .before .before .before .survey-of .result) true (c .before .before .before .survey-of .ensures) (c .before .before .if1 .taken) in
+    let sv = c .before .before .before .survey-of in
+    let wf : wellFormed l ≡ true = formed l (sv .result) true (sv .ensures) (c .before .before .if1 .taken) in
     omega (arith, found l wf .long)
 
 choose-requires : tie.Need-choose-requires
 choose-requires c κs =
     let l = c .before .before .before .before .before .before .before .before .before .before .args .w .now in
-    let wf : wellFormed l ≡ true = formed l (c .before .before .before .before .before .before .before .survey-of .result) true (c .before .before .before .before .before .before .before .survey-of .ensures) (c .before .before .before .before .before .before .if1 .taken) in
-    let hb = c .before .before .before .read-home .result in
-    let eh = c .before .before .before .read-home .ensures in
-    omega (arith, last-small l wf hb eh, found l wf .most)
+    let sv = c .before .before .before .before .before .before .before .survey-of in
+    let wf : wellFormed l ≡ true = formed l (sv .result) true (sv .ensures) (c .before .before .before .before .before .before .if1 .taken) in
+    let h = c .before .before .before .read-home in
+    omega (arith, last-small l wf (h .result) (h .ensures), found l wf .most)
 
-read-tile-requires : tie.Need-read-tile-requires
-read-tile-requires c κs =
+read-row-requires : tie.Need-read-row-requires
+read-row-requires c κs =
     let l = c .before .before .before .before .before .before .before .before .before .before .before .before .before .args .w .now in
-    let wf : wellFormed l ≡ true = formed l (c .before .before .before .before .before .before .before .before .before .before .survey-of .result) true (c .before .before .before .before .before .before .before .before .before .before .survey-of .ensures) (c .before .before .before .before .before .before .before .before .before .if1 .taken) in
-    let hb = c .before .before .before .before .before .before .read-home .result in
-    let eh = c .before .before .before .before .before .before .read-home .ensures in
-    let t = c .before .before .choose .result in
-    let et = chosen-by l wf hb eh (c .before .before .before .before .before .before .before .before .before .before .survey-of .result) (c .before .before .before .before .before .before .before .before .before .before .survey-of .ensures) t (c .before .before .choose .ensures) in
-    omega (arith, found l wf .enough, chosen-small l wf hb eh t et (c .before .if3 .taken))
+    let sv = c .before .before .before .before .before .before .before .before .before .before .survey-of in
+    let wf : wellFormed l ≡ true = formed l (sv .result) true (sv .ensures) (c .before .before .before .before .before .before .before .before .before .if1 .taken) in
+    let h = c .before .before .before .before .before .before .read-home in
+    let t = c .before .before .choose in
+    let et = chosen-by l wf (h .result) (h .ensures) (sv .result) (sv .ensures) (t .result) (t .ensures) in
+    omega (arith, found l wf .enough, chosen-small l wf (h .result) (h .ensures) (t .result) et (c .before .if3 .taken))
 
 commit-with-requires : tie.Need-commit-with-requires
 commit-with-requires c κs =
-    let l = c .before .before .before .before .before .before .before .before .before .before .before .before .before .before .before .before .before .before .args .w .now in
-    let wf : wellFormed l ≡ true = formed l (c .before .before .before .before .before .before .before .before .before .before .before .before .before .before .before .survey-of .result) true (c .before .before .before .before .before .before .before .before .before .before .before .before .before .before .before .survey-of .ensures) (c .before .before .before .before .before .before .before .before .before .before .before .before .before .before .if1 .taken) in
-    let hb = c .before .before .before .before .before .before .before .before .before .before .before .read-home .result in
-    let eh = c .before .before .before .before .before .before .before .before .before .before .before .read-home .ensures in
-    let t = c .before .before .before .before .before .before .before .choose .result in
-    let et = chosen-by l wf hb eh (c .before .before .before .before .before .before .before .before .before .before .before .before .before .before .before .survey-of .result) (c .before .before .before .before .before .before .before .before .before .before .before .before .before .before .before .survey-of .ensures) t (c .before .before .before .before .before .before .before .choose .ensures) in
-    (found l wf .enough, found l wf .most, omega (arith, found l wf .enough, chosen-small l wf hb eh t et (c .before .before .before .before .before .before .if3 .taken)))
+    let l = c .before .before .before .before .before .before .before .before .before .before .before .before .before .before .before .before .args .w .now in
+    let sv = c .before .before .before .before .before .before .before .before .before .before .before .before .before .survey-of in
+    let wf : wellFormed l ≡ true = formed l (sv .result) true (sv .ensures) (c .before .before .before .before .before .before .before .before .before .before .before .before .if1 .taken) in
+    let h = c .before .before .before .before .before .before .before .before .before .read-home in
+    let t = c .before .before .before .before .before .choose in
+    let et = chosen-by l wf (h .result) (h .ensures) (sv .result) (sv .ensures) (t .result) (t .ensures) in
+    (found l wf .enough, found l wf .most, omega (arith, found l wf .enough, chosen-small l wf (h .result) (h .ensures) (t .result) et (c .before .before .before .before .if3 .taken)))
 
 returns : tie.Need-returns
 returns c =
-    let l = c .before .before .before .before .before .before .before .before .before .before .before .before .before .before .before .before .before .before .before .before .before .args .w .now in
-    let wf : wellFormed l ≡ true = formed l (c .before .before .before .before .before .before .before .before .before .before .before .before .before .before .before .before .before .before .survey-of .result) true (c .before .before .before .before .before .before .before .before .before .before .before .before .before .before .before .before .before .before .survey-of .ensures) (c .before .before .before .before .before .before .before .before .before .before .before .before .before .before .before .before .before .if1 .taken) in
-    let hb = c .before .before .before .before .before .before .before .before .before .before .before .before .before .before .read-home .result in
-    let eh = c .before .before .before .before .before .before .before .before .before .before .before .before .before .before .read-home .ensures in
-    let t = c .before .before .before .before .before .before .before .before .before .before .choose .result in
-    let et = chosen-by l wf hb eh (c .before .before .before .before .before .before .before .before .before .before .before .before .before .before .before .before .before .before .survey-of .result) (c .before .before .before .before .before .before .before .before .before .before .before .before .before .before .before .before .before .before .survey-of .ensures) t (c .before .before .before .before .before .before .before .before .before .before .choose .ensures) in
-    let m = take-call l wf hb eh t (c .before .before .before .before .before .before .before .read-tile .result) (c .before .before .before .before .before .before .before .read-tile .ensures) (c .before .before .before .before .before .take .result) (c .before .before .before .before .popped1 .result) _ _ (c .before .before .before .before .before .before .before .before .before .before .before .before .if2 .taken) et (c .before .before .before .before .before .before .before .before .before .if3 .taken) (c .before .before .before .before .before .take .ensures) (c .before .before .before .before .popped1 .ensures) (c .before .before .commit-with .ensures) in
+    let l = c .before .before .before .before .before .before .before .before .before .before .before .before .before .before .before .before .before .before .before .args .w .now in
+    let sv = c .before .before .before .before .before .before .before .before .before .before .before .before .before .before .before .before .survey-of in
+    let wf : wellFormed l ≡ true = formed l (sv .result) true (sv .ensures) (c .before .before .before .before .before .before .before .before .before .before .before .before .before .before .before .if1 .taken) in
+    let h = c .before .before .before .before .before .before .before .before .before .before .before .before .read-home in
+    let t = c .before .before .before .before .before .before .before .before .choose in
+    let et = chosen-by l wf (h .result) (h .ensures) (sv .result) (sv .ensures) (t .result) (t .ensures) in
+    let m = take-call l wf (h .result) (h .ensures) (t .result) _ _ _ _ (c .before .before .before .before .before .before .before .before .before .before .if2 .taken) et (c .before .before .before .before .before .before .before .if3 .taken) (c .before .before .before .before .before .read-row .ensures) (c .before .before .before .before .take .ensures) (c .before .before .commit-with .ensures) in
     (m .answer, m .words)
 
 returns-2 : tie.Need-returns-2
 returns-2 c =
     let l = c .before .before .before .before .before .before .before .before .before .before .before .before .before .args .w .now in
-    let wf : wellFormed l ≡ true = formed l (c .before .before .before .before .before .before .before .before .before .before .survey-of .result) true (c .before .before .before .before .before .before .before .before .before .before .survey-of .ensures) (c .before .before .before .before .before .before .before .before .before .if1 .taken) in
-    let hb = c .before .before .before .before .before .before .read-home .result in
-    let eh = c .before .before .before .before .before .before .read-home .ensures in
-    let t = c .before .before .choose .result in
-    let et = chosen-by l wf hb eh (c .before .before .before .before .before .before .before .before .before .before .survey-of .result) (c .before .before .before .before .before .before .before .before .before .before .survey-of .ensures) t (c .before .before .choose .ensures) in
-    let m = nobody-call l wf hb eh (c .before .before .before .before .if2 .taken) t et (c .before .if3 .left) in
+    let sv = c .before .before .before .before .before .before .before .before .before .before .survey-of in
+    let wf : wellFormed l ≡ true = formed l (sv .result) true (sv .ensures) (c .before .before .before .before .before .before .before .before .before .if1 .taken) in
+    let h = c .before .before .before .before .before .before .read-home in
+    let t = c .before .before .choose in
+    let et = chosen-by l wf (h .result) (h .ensures) (sv .result) (sv .ensures) (t .result) (t .ensures) in
+    let m = nobody-call l wf (h .result) (h .ensures) (c .before .before .before .before .if2 .taken) (t .result) et (c .before .if3 .left) in
     (c .refused .ensures ∙ m .answer, m .words)
 
 returns-3 : tie.Need-returns-3
 returns-3 c =
     let l = c .before .before .before .before .before .before .before .before .before .before .args .w .now in
-    let wf : wellFormed l ≡ true = formed l (c .before .before .before .before .before .before .before .survey-of .result) true (c .before .before .before .before .before .before .before .survey-of .ensures) (c .before .before .before .before .before .before .if1 .taken) in
-    let hb = c .before .before .before .read-home .result in
-    let eh = c .before .before .before .read-home .ensures in
-    let m = busy-call l wf hb eh (c .before .if2 .left) in
+    let sv = c .before .before .before .before .before .before .before .survey-of in
+    let wf : wellFormed l ≡ true = formed l (sv .result) true (sv .ensures) (c .before .before .before .before .before .before .if1 .taken) in
+    let h = c .before .before .before .read-home in
+    let m = busy-call l wf (h .result) (h .ensures) (c .before .if2 .left) in
     (c .refused2 .ensures ∙ m .answer, m .words)
 
 returns-4 : tie.Need-returns-4
 returns-4 c =
     let l = c .before .before .before .before .before .args .w .now in
-    let m = malformed l taking (formed l (c .before .before .survey-of .result) false (c .before .before .survey-of .ensures) (c .before .if1 .left)) in
+    let sv = c .before .before .survey-of in
+    let m = malformed l taking (formed l (sv .result) false (sv .ensures) (c .before .if1 .left)) in
     (c .refused3 .ensures ∙ m .answer, m .words)
 
 pub taking-spec : {M : Type 1} → statement M
@@ -99,9 +102,10 @@ taking-spec =
     choose-requires
     (λ c. search needs)
     (λ c. search needs)
-    read-tile-requires
+    (λ c. search needs)
+    read-row-requires
     (λ c κs. search needs)
-    (λ c κs. search needs)
+    (λ c. search needs)
     commit-with-requires
     (λ c κs. search needs)
     (λ c κs. search needs)
