@@ -118,7 +118,7 @@ module _ (l m : List ℕ) (i : ℕ) (h : i + 84 ≤ length l) where
   put-numbers a b c d e =
       record {
         words = e ∙ kept-behind l i (i + 4) 80 (a ∷ b ∷ c ∷ d ∷ []) refl (omega arith)
-        ∙ ap (λ (r : List ℕ). over l i (a ∷ b ∷ c ∷ d ∷ r)) (sym (join l (i + 4) (i + 12) 8 72 (omega arith) refl rest1));
+            ∙ ap (λ (r : List ℕ). over l i (a ∷ b ∷ c ∷ d ∷ r)) (sym (join l (i + 4) (i + 12) 8 72 (omega arith) refl rest1));
         full = record { head-full = row-full l i (omega arith); noc1-full = pair-full l (i + 12) (omega arith); noc2-full = pair-full l (i + 36) (omega arith); noc3-full = pair-full l (i + 60) (omega arith) };
       }
 
@@ -128,8 +128,8 @@ module _ (l m : List ℕ) (i : ℕ) (h : i + 84 ≤ length l) where
       let four : getD l i 0 ∷ getD l (i + 1) 0 ∷ getD l (i + 2) 0 ∷ getD l (i + 3) 0 ∷ [] ≡ take 4 (drop i l) = front l i (omega arith) in
       record {
         words = e ∙ kept-behind l (i + 4) (i + 12) 72 ws (omega arith) (omega arith) ∙ kept-before l i (i + 4) 4 (ws ++ take 72 (drop (i + 12) l)) refl (omega arith)
-        ∙ ap (λ (r : List ℕ). over l i (r ++ (ws ++ take 72 (drop (i + 12) l)))) (sym four)
-        ∙ ap (λ (r : List ℕ). over l i (getD l i 0 ∷ getD l (i + 1) 0 ∷ getD l (i + 2) 0 ∷ getD l (i + 3) 0 ∷ (ws ++ r))) (sym rest1);
+            ∙ ap (λ (r : List ℕ). over l i (r ++ (ws ++ take 72 (drop (i + 12) l)))) (sym four)
+            ∙ ap (λ (r : List ℕ). over l i (getD l i 0 ∷ getD l (i + 1) 0 ∷ getD l (i + 2) 0 ∷ getD l (i + 3) 0 ∷ (ws ++ r))) (sym rest1);
         full = record { head-full = n; noc1-full = pair-full l (i + 12) (omega arith); noc2-full = pair-full l (i + 36) (omega arith); noc3-full = pair-full l (i + 60) (omega arith) };
       }
 
@@ -144,8 +144,8 @@ module _ (l m : List ℕ) (i : ℕ) (h : i + 84 ≤ length l) where
       let n : length (pairWords p) ≡ 24 = length-pair p f in
       record {
         words = e ∙ kept-behind l (i + 12) (i + 36) 48 (pairWords p) (omega arith) (omega arith) ∙ kept-before l i (i + 12) 12 (pairWords p ++ take 48 (drop (i + 36) l)) refl (omega arith)
-        ∙ ap (λ (r : List ℕ). over l i (r ++ (pairWords p ++ take 48 (drop (i + 36) l)))) (sym (row-words l i (omega arith)))
-        ∙ ap (λ (r : List ℕ). over l i (rowWords (rowAt l i) ++ (pairWords p ++ r))) (sym rest2);
+            ∙ ap (λ (r : List ℕ). over l i (r ++ (pairWords p ++ take 48 (drop (i + 36) l)))) (sym (row-words l i (omega arith)))
+            ∙ ap (λ (r : List ℕ). over l i (rowWords (rowAt l i) ++ (pairWords p ++ r))) (sym rest2);
         full = record { head-full = row-full l i (omega arith); noc1-full = f; noc2-full = pair-full l (i + 36) (omega arith); noc3-full = pair-full l (i + 60) (omega arith) };
       }
 
@@ -159,8 +159,8 @@ module _ (l m : List ℕ) (i : ℕ) (h : i + 84 ≤ length l) where
       let Y : List ℕ = pairWords p ++ pairWords (pairAt l (i + 60)) in
       record {
         words = e ∙ kept-behind l (i + 36) (i + 60) 24 (pairWords p) (omega arith) (omega arith)
-        ∙ ap (λ (r : List ℕ). over l (i + 36) (pairWords p ++ r)) (sym (pair-words l (i + 60) (omega arith)))
-        ∙ kept-before l i (i + 36) 36 Y refl (omega arith) ∙ ap (λ (r : List ℕ). over l i (r ++ Y)) (sym before) ∙ ap (over l i) (append-assoc H P Y);
+            ∙ ap (λ (r : List ℕ). over l (i + 36) (pairWords p ++ r)) (sym (pair-words l (i + 60) (omega arith)))
+            ∙ kept-before l i (i + 36) 36 Y refl (omega arith) ∙ ap (λ (r : List ℕ). over l i (r ++ Y)) (sym before) ∙ ap (over l i) (append-assoc H P Y);
         full = record { head-full = row-full l i (omega arith); noc1-full = pair-full l (i + 12) (omega arith); noc2-full = f; noc3-full = pair-full l (i + 60) (omega arith) };
       }
 
@@ -175,7 +175,7 @@ module _ (l m : List ℕ) (i : ℕ) (h : i + 84 ≤ length l) where
       join l i (i + 12) 12 48 refl (row-words l i (omega arith)) (join l (i + 12) (i + 36) 24 24 (omega arith) (pair-words l (i + 12) (omega arith)) (pair-words l (i + 36) (omega arith))) in
       record {
         words = e ∙ kept-before l i (i + 60) 60 (pairWords p) refl (omega arith) ∙ ap (λ (r : List ℕ). over l i (r ++ pairWords p)) (sym before)
-        ∙ ap (over l i) (append-assoc H (P ++ Q) (pairWords p) ∙ ap (λ (r : List ℕ). H ++ r) (append-assoc P Q (pairWords p)));
+            ∙ ap (over l i) (append-assoc H (P ++ Q) (pairWords p) ∙ ap (λ (r : List ℕ). H ++ r) (append-assoc P Q (pairWords p)));
         full = record { head-full = row-full l i (omega arith); noc1-full = pair-full l (i + 12) (omega arith); noc2-full = pair-full l (i + 36) (omega arith); noc3-full = f };
       }
 

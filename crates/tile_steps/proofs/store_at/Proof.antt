@@ -1,78 +1,17 @@
-use mathlib.Core.Path.{_≡_, refl, sym, _∙_}
-use borrow.Author.Tests.{eq-eqb, ne-eqb, lt-ltb, le-ltb}
-use Rattle.words.specs.Blocks.{tileAt, pairAt, rowAt}
 use Rattle.tile_steps.proofs.InPlace.{store-asks, store-done, store-waits, store-word}
 use borrow.Author.Needs.{needs}
 use Rattle.tile_steps.proofs.store_at.Statement.{statement}
 use Rattle.tile_steps.proofs.store_at.Tie as tie
-use Rattle.tile_steps.proofs.store_at.Reads as reads
-use Rattle.tile_steps.proofs.store_at.Lts as lts
-use Rattle.tile_steps.proofs.asks_at.Reads as asks-at-reads
-use Rattle.tile_steps.proofs.done.Reads as done-reads
-use Rattle.tile_steps.proofs.refuse.Reads as refuse-reads
-use Rattle.tile_steps.proofs.stored_at.Reads as stored-at-reads
 
--- src/lib.rt:268:14
-add-if2 : tie.Need-add-if2
-add-if2 c = search needs
-
--- src/lib.rt:268:12
-mul-if2 : tie.Need-mul-if2
-mul-if2 c = search needs
-
--- src/lib.rt:268:12
-slice-read-if2 : tie.Need-slice-read-if2
-slice-read-if2 c = search needs
-
--- src/lib.rt:269:16
-mul-if3 : tie.Need-mul-if3
-mul-if3 c = search needs
-
--- src/lib.rt:269:16
-slice-read-if3 : tie.Need-slice-read-if3
-slice-read-if3 c = search needs
-
--- src/lib.rt:270:17
-asks-at-requires : tie.Need-asks-at-requires
-asks-at-requires c κs = search needs
-
--- src/lib.rt:272:17
-stored-at-requires : tie.Need-stored-at-requires
-stored-at-requires c κs = search needs
-
--- src/lib.rt:273:17
-done-requires : tie.Need-done-requires
-done-requires c κs = search needs
-
--- src/lib.rt:276:13
-refuse-requires : tie.Need-refuse-requires
-refuse-requires c κs = search needs
-
--- src/lib.rt:279:9
-refuse-requires-2 : tie.Need-refuse-requires-2
-refuse-requires-2 c κs = search needs
-
--- src/lib.rt:263:1
-same-length : tie.Need-same-length
-same-length c = search needs
-
--- src/lib.rt:263:1
 returns : tie.Need-returns
 returns c = store-asks _ _ (c .before .before .before .before .before .before .before .before .before .before .args .at) _ _ _ (c .before .before .before .before .before .before .before .before .if1 .taken) (c .before .before .before .before .before .before .if2 .taken) (c .before .before .before .before .if3 .taken) (c .before .before .asks-at .ensures)
 
--- src/lib.rt:263:1
-same-length-2 : tie.Need-same-length-2
-same-length-2 c = search needs
-
--- src/lib.rt:263:1
 returns-2 : tie.Need-returns-2
 returns-2 c = store-done _ _ (c .before .before .before .before .before .before .before .before .before .before .before .args .at) _ _ _ (c .before .before .before .before .before .before .before .before .before .if1 .taken) (c .before .before .before .before .before .before .before .if2 .taken) (c .before .before .before .before .before .if3 .left) (c .done .ensures) (c .before .before .before .stored-at .ensures)
 
--- src/lib.rt:263:1
 returns-3 : tie.Need-returns-3
 returns-3 c = store-waits _ (c .before .before .before .before .before .args .at) _ _ _ (c .before .before .before .before .before .pre) (c .before .before .before .if1 .taken) (c .before .if2 .left) (c .refuse .ensures)
 
--- src/lib.rt:263:1
 returns-4 : tie.Need-returns-4
 returns-4 c = store-word _ (c .before .before .before .args .at) _ _ _ (c .before .before .before .pre) (c .before .if1 .left) (c .refuse2 .ensures)
 
@@ -80,19 +19,19 @@ pub store-at-spec : {M : Type 1} → statement M
 store-at-spec =
     tie.close
     (tie.spec
-    add-if2
-    mul-if2
-    slice-read-if2
-    mul-if3
-    slice-read-if3
-    asks-at-requires
-    stored-at-requires
-    done-requires
-    refuse-requires
-    refuse-requires-2
-    same-length
+    (λ c. search needs)
+    (λ c. search needs)
+    (λ c. search needs)
+    (λ c. search needs)
+    (λ c. search needs)
+    (λ c κs. search needs)
+    (λ c κs. search needs)
+    (λ c κs. search needs)
+    (λ c κs. search needs)
+    (λ c κs. search needs)
+    (λ c. search needs)
     returns
-    same-length-2
+    (λ c. search needs)
     returns-2
     returns-3
     returns-4)
