@@ -1,6 +1,6 @@
-use Rattle.block_tests.proofs.Laws.{ne-left, same-self}
+use Rattle.word_tests.proofs.Laws.{ne-left, same-self}
 use borrow.Author.Tests.{ne-eqb}
-use Rattle.block_tests.specs.Parts.{cacheOk}
+use Rattle.word_tests.specs.Parts.{cacheOk}
 use Rattle.words.specs.Blocks.{rowAt}
 use Rattle.codec.specs.Encode.{stateNumber, cacheWords, rightNumber}
 use Rattle.codec.specs.Decode.{decCache, decRight}

@@ -1,4 +1,4 @@
-use Rattle.block_tests.proofs.Laws.{ne-left}
+use Rattle.word_tests.proofs.Laws.{ne-left}
 use borrow.Author.Tests.{ne-eqb}
 use Rattle.codec.specs.Encode.{directoryNumber, directoryTiles}
 use Rattle.codec.specs.Decode.{decDirectory}

@@ -1,4 +1,4 @@
-use Rattle.block_tests.proofs.Rows.{head}
+use Rattle.word_tests.proofs.Rows.{head}
 use borrow.Author.Needs.{needs}
 use Rattle.block_tests.proofs.head_ok.Statement.{statement}
 use Rattle.block_tests.proofs.head_ok.Tie as tie

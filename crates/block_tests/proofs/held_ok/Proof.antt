@@ -1,6 +1,6 @@
-use Rattle.block_tests.proofs.Laws.{and-true, same-self}
+use Rattle.word_tests.proofs.Laws.{and-true, same-self}
 use borrow.Author.Tests.{ne-eqb}
-use Rattle.block_tests.specs.Parts.{heldOk, ownedOk, sharedOk}
+use Rattle.word_tests.specs.Parts.{heldOk, ownedOk, sharedOk}
 use Rattle.codec.specs.Encode.{encLine, lineOf, directoryNumber, directoryTiles}
 use Rattle.codec.specs.Decode.{decHome}
 use Rattle.codec.specs.Same.{sameRow}

@@ -1,4 +1,4 @@
-use Rattle.block_tests.proofs.Rows.{home}
+use Rattle.word_tests.proofs.Rows.{home}
 use Rattle.words.specs.Blocks.{homeAt, rowAt}
 use borrow.Author.Needs.{needs}
 use Rattle.block_tests.proofs.home_ok_at.Statement.{statement}

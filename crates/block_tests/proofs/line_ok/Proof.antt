@@ -1,8 +1,8 @@
-use Rattle.block_tests.proofs.Laws.{and-true, zero-left, same-self}
+use Rattle.word_tests.proofs.Laws.{and-true, zero-left, same-self}
 use borrow.Author.Tests.{eq-eqb, ne-eqb}
 use Rattle.codec.specs.Same.{sameRow}
 use Rattle.words.specs.Blocks.{rowAt}
-use Rattle.block_tests.specs.Parts.{bare, clearBehind}
+use Rattle.word_tests.specs.Parts.{bare, clearBehind}
 use Rattle.codec.specs.Encode.{encLine}
 use Rattle.codec.specs.Decode.{decLine}
 use borrow.Author.Needs.{needs}

@@ -1,4 +1,4 @@
-use Rattle.block_tests.specs.Parts.{ownedOk}
+use Rattle.word_tests.specs.Parts.{ownedOk}
 use Rattle.words.specs.Blocks.{rowAt}
 use borrow.Author.Needs.{needs}
 use Rattle.block_tests.proofs.owned_ok.Statement.{statement}

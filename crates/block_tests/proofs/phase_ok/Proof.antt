@@ -1,6 +1,6 @@
-use Rattle.block_tests.proofs.Laws.{ne-left}
+use Rattle.word_tests.proofs.Laws.{ne-left}
 use borrow.Author.Tests.{ne-eqb}
-use Rattle.block_tests.specs.Parts.{phaseOk}
+use Rattle.word_tests.specs.Parts.{phaseOk}
 use Rattle.codec.specs.Encode.{phaseNumber, requester, owedTiles}
 use Rattle.codec.specs.Decode.{decHome}
 use Rattle.words.specs.Blocks.{rowAt}

@@ -1,4 +1,4 @@
-use Rattle.block_tests.proofs.Laws.{or-clear, and-assoc}
+use Rattle.word_tests.proofs.Laws.{or-clear, and-assoc}
 use borrow.Author.Needs.{needs}
 use Rattle.block_tests.proofs.quiet.Statement.{statement}
 use Rattle.block_tests.proofs.quiet.Tie as tie

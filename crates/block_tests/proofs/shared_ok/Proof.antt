@@ -1,4 +1,4 @@
-use Rattle.block_tests.specs.Parts.{sharedOk}
+use Rattle.word_tests.specs.Parts.{sharedOk}
 use Rattle.words.specs.Blocks.{rowAt}
 use borrow.Author.Needs.{needs}
 use Rattle.block_tests.proofs.shared_ok.Statement.{statement}

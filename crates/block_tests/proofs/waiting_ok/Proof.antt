@@ -1,6 +1,6 @@
-use Rattle.block_tests.proofs.Laws.{equal-self, and-true, ne-left}
+use Rattle.word_tests.proofs.Laws.{equal-self, and-true, ne-left}
 use borrow.Author.Tests.{ne-eqb}
-use Rattle.block_tests.specs.Parts.{waitingOk}
+use Rattle.word_tests.specs.Parts.{waitingOk}
 use Rattle.words.specs.Blocks.{rowAt}
 use Rattle.codec.specs.Encode.{waitingNumber, waitingWord, waitingValue}
 use Rattle.codec.specs.Decode.{decWaiting}
