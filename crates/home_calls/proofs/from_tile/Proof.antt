@@ -3,6 +3,7 @@ use mathlib.Core.Path.{sym, _∙_}
 use native.Mathlib.Omega.{arith}
 use Rattle.bench_words.proofs.Decoded.{found}
 use Rattle.bench_words.proofs.Meets.{malformed}
+use Rattle.home_calls.proofs.Keeps.{kept-accept}
 use Rattle.home_calls.proofs.HomeCalls.{from-call, no-from}
 use Rattle.protocol.specs.Parts.{fromTile}
 use borrow.Author.Needs.{needs}
@@ -33,7 +34,7 @@ add-commit-with c = omega (arith, found _ (sym (c .before .before .before .befor
 commit-with-requires : tie.Need-commit-with-requires
 commit-with-requires c κs =
     let f = found _ (sym (c .before .before .before .before .before .before .before .before .before .well-formed .ensures) ∙ c .before .before .before .before .before .before .before .before .if1 .taken) in
-    (f .enough, f .most, omega (arith, f .enough))
+    (f .enough, f .most, omega arith, omega (arith, f .enough), kept-accept _ _ (c .before .before .before .before .read-home .ensures) _ _ _ (c .before .accept .ensures))
 
 returns : tie.Need-returns
 returns c =

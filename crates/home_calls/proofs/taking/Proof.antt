@@ -8,6 +8,7 @@ use Rattle.protocol.specs.Parts.{taking}
 use Rattle.bench_words.specs.Calls.{wellFormed}
 use Rattle.bench_words.proofs.Decoded.{found}
 use Rattle.bench_words.proofs.Meets.{malformed}
+use Rattle.home_calls.proofs.Keeps.{kept-take}
 use Rattle.home_calls.proofs.HomeCalls.{formed, last-small, chosen-by, chosen-small, take-call, nobody-call, busy-call}
 use Rattle.home_calls.proofs.taking.Statement.{statement}
 use Rattle.home_calls.proofs.taking.Tie as tie
@@ -52,7 +53,7 @@ commit-with-requires c κs =
     let h = c .before .before .before .before .before .before .before .before .before .read-home in
     let t = c .before .before .before .before .before .choose in
     let et = chosen-by l wf (h .result) (h .ensures) (sv .result) (sv .ensures) (t .result) (t .ensures) in
-    (found l wf .enough, found l wf .most, omega (arith, found l wf .enough, chosen-small l wf (h .result) (h .ensures) (t .result) et (c .before .before .before .before .if3 .taken)))
+    (found l wf .enough, found l wf .most, omega arith, omega (arith, found l wf .enough, chosen-small l wf (h .result) (h .ensures) (t .result) et (c .before .before .before .before .if3 .taken)), kept-take _ _ (h .ensures) _ _ _ (c .before .take .ensures))
 
 returns : tie.Need-returns
 returns c =
