@@ -21,7 +21,7 @@ use Rattle.words.proofs.Reading.{tile-full}
 use Rattle.protocol.specs.Parts.{Words, Queue, Request, Forward, Reply, ToMemory, FromMemory, Tile, tileOf, Line, Home, idle, awaitingLoad, awaitingOwner, awaitingAcks, awaitingStore, reading, writing, request, eviction, clearForStore, clearForEviction, Bench, benchOf, Call, taking, fromTile, memoryStep, memoryAck, homeEviction, Result, refused, accepted}
 use Rattle.protocol.specs.Bench as rules
 use Rattle.protocol.specs.Bench.{freshTile, tileAt, step, front, rest, noc1, noc3, popNoc1, popNoc3, fromTileOn, takingOn, takeFrom, arbitrate}
-use Rattle.codec.specs.Encode.{encRequest, encForward, encReply, encQueue, encTile, encHome, encode, phaseNumber}
+use Rattle.codec.specs.Encode.{row, zeros, encRequest, encForward, encReply, encQueue, encTile, encHome, encode, phaseNumber}
 use Rattle.codec.specs.Decode.{decTiles, decoded, benchFrom, decHome, decLine, decQueue, decToMemory, decFromMemory, isSet}
 use Rattle.codec.proofs.Canonical.{homeFrom, home-canonical}
 use Rattle.tile_steps.specs.Steps.{room, pop, headed}
@@ -40,12 +40,12 @@ use Rattle.bench_words.specs.Survey.{surveyOf}
 use Rattle.bench_words.proofs.Guard.{survey-ok}
 use Rattle.bench_words.proofs.Ready.{survey-ready}
 use Rattle.posts.specs.Post.{rooms, Committed}
-use Rattle.home_calls.specs.Taken.{homeStepOn, choice, chosen}
+use Rattle.home_calls.specs.Taken.{homeStepOn, refusalOf, choice, chosen}
 use Rattle.bench_words.proofs.Laid.{Laid, laid-tile, write-tile}
 use Rattle.bench_words.proofs.Decoded.{Found, found, count, laid-out}
 use Rattle.bench_words.proofs.Meets.{Meets}
 use Rattle.posts.proofs.Posted.{allRoom, rooms-tiles}
-use Rattle.posts.proofs.Commits.{committed}
+use Rattle.posts.proofs.Commits.{committed, is-stopped}
 use Rattle.posts.proofs.Places.{pop-full, over-noc1, over-noc3}
 use Rattle.home_calls.proofs.Searched.{optionOf, searched, choice-below, ready-chosen}
 
@@ -169,6 +169,29 @@ module _ (l : List ℕ) (h : wellFormed l ≡ true) where
   pub home-done : (c : ℕ) (s : HomeStep) → s ≡ homeStepOn c H → (a : Answer) (m : List ℕ) → Committed l l n 0 s a m → Meets l (stepOn l (homeCall c)) a m
   home-done c s is a m made =
       committed l l (homeCall c) 0 s a m h (result c) B ts tiles-counted laid (result-sends c) (is ∙ result-is c) (result-step c) (room-as (s .to)) made
+
+  refused-early : (c : ℕ) → (refusalOf c H ≡ 0 → ⊥) → homeStepOn c H ≡ numbers.stop H (refusalOf c H)
+  unfolding homeStepOn refusalOf numbers.memoryStep numbers.memoryAck numbers.evictLine
+  refused-early c = go (eqb c 0) (eqb c 1) (eqb (H .out .a .n0) 0) (eqb (H .back .a .n0) 0) (eqb (H .phase) 0) (eqb (H .line .n0) 0)
+    where
+      go : (a b d e f g : Bool) → (_≡_ {A = ℕ} (cond a (cond d 7 0) (cond b (cond e 7 0) (cond f (cond g 5 0) 6))) 0 → ⊥) →
+          cond a (cond d (numbers.stop H 7) (cond (eqb (H .out .a .n0) 19) (numbers.answer H (H .control .words) (row 24 0 0 0 (H .control .words))) (numbers.answer H (H .out .a .words) (row 25 0 0 0 zeros))))
+          (cond b (cond e (numbers.stop H 7) (cond (eqb (H .back .a .n0) 24) (numbers.fill H) (numbers.drop H))) (cond f (cond g (numbers.stop H 5) (numbers.evictValid H)) (numbers.stop H 6)))
+          ≡ numbers.stop H (cond a (cond d 7 0) (cond b (cond e 7 0) (cond f (cond g 5 0) 6)))
+      go true b true e f g w = refl
+      go true b false e f g w = absurd (w refl)
+      go false true d true f g w = refl
+      go false true d false f g w = absurd (w refl)
+      go false false d e true true w = refl
+      go false false d e true false w = absurd (w refl)
+      go false false d e false g w = refl
+
+  -- refused before the block is read
+  pub home-early : (c k : ℕ) → k ≡ refusalOf c H → (k ≡ 0 → ⊥) → Meets l (stepOn l (homeCall c)) (refusal k) l
+  unfolding numbers.stop
+  home-early c k e wrong =
+      let z : homeStepOn c H ≡ numbers.stop H k = refused-early c (λ q. wrong (e ∙ q)) ∙ ap (numbers.stop H) (sym e) in
+      home-done c (numbers.stop H k) (sym z) (refusal k) l (is-stopped l l n 0 (numbers.stop H k) (refusal k) l wrong refl refl)
 
   -- a tile without the front of a queue
   pop1 : (x : Tile) → popped1 (encTile x) ≡ encTile (popNoc1 x)
@@ -321,6 +344,13 @@ module _ (l : List ℕ) (h : wellFormed l ≡ true) where
         committed l _ (fromTile t) 0 s a m h (acceptedHome t (front (noc3 x)) home last marks memory out back) B (set ts t y) (length-set ts t y ∙ tiles-counted) laid-3
         (accept-sends n t (front (noc3 x)) home in-range last marks memory out back) numbers-are by-step (room-as (s .to) ∙ sym (room-with y (same2-3 x) (s .to) n 0)) made
 
+    -- 7: nothing on its NoC3
+    pub from-early : getD l (place + 60) 0 ≡ 0 → Meets l (stepOn l (fromTile t)) (refusal 7) l
+    unfolding numbers.accept numbers.stop blocks.rowAt
+    from-early z =
+        let e : numbers.stop H 7 ≡ numbers.accept H t (blocks.rowAt l (place + 60)) = rw z refl in
+        from-done (numbers.stop H 7) e (refusal 7) l (is-stopped l _ n 0 (numbers.stop H 7) (refusal 7) l (λ q. omega arith) refl refl)
+
     -- taking of tile t, where it is the one found
     abbrev line : Line
     line = decLine n (H .line)
@@ -389,3 +419,30 @@ module _ (l : List ℕ) (h : wellFormed l ≡ true) (hb : HomeBlock) (eh : hb �
 
   pub busy-call : (hb .phase ≡ 0 → ⊥) → Meets l (stepOn l taking) (refusal 6) l
   busy-call wrong = not-idle l h (λ z. wrong (ap (λ (y : HomeBlock). y .phase) eh ∙ z))
+
+-- the same by the words of the phase and of the tile taken last, before the block is read
+module _ (l : List ℕ) (h : wellFormed l ≡ true) where
+  pub last-there : getD l 14 0 < getD l 0 0
+  unfolding homeAt blocks.rowAt
+  last-there = last-small l h (homeAt l) refl
+
+  pub busy-there : (getD l 1 0 ≡ 0 → ⊥) → Meets l (stepOn l taking) (refusal 6) l
+  unfolding homeAt
+  busy-there wrong = busy-call l h (homeAt l) refl wrong
+
+  module _ (s : Survey) (es : s ≡ surveyOf l) (t : ℕ) (e : t ≡ chosen (s .ready) (getD l 14 0)) where
+    chosen-there : t ≡ choice l (homeAt l .control .n1) (homeAt l .control .n0) (getD l 0 0)
+    unfolding homeAt blocks.rowAt
+    chosen-there = chosen-by l h (homeAt l) refl s es t e
+
+    pub small-there : t < 64 → t < getD l 0 0
+    small-there q = chosen-small l h (homeAt l) refl t chosen-there q
+
+    pub nobody-there : getD l 1 0 ≡ 0 → 64 ≤ t → Meets l (stepOn l taking) (refusal 7) l
+    unfolding homeAt
+    nobody-there z q = nobody-call l h (homeAt l) refl z t chosen-there q
+
+    pub take-there : (hb : HomeBlock) → hb ≡ homeAt l → (mr : Row) (st : HomeStep) (a : Answer) (m : List ℕ) → getD l 1 0 ≡ 0 → t < 64 → mr ≡ blocks.rowAt l (74 + 84 * t + 12) → st ≡ numbers.take hb t mr →
+        Committed l (over l (74 + 84 * t + 12) (pairWords (pop (blocks.pairAt l (74 + 84 * t + 12))))) (getD l 0 0) t st a m → Meets l (stepOn l taking) a m
+    unfolding homeAt
+    take-there hb eh mr st a m z q em is made = take-call l h (homeAt l) refl t mr st a m z chosen-there q em (is ∙ ap (λ (y : HomeBlock). numbers.take y t mr) eh) made

@@ -26,3 +26,9 @@ chosen ready last = cond (ltb (next ready (last + 1)) 64) (next ready (last + 1)
 -- the calls at the home alone, by number: 0 memory step, 1 memory ack, else home eviction
 unfoldable pub homeStepOn : ℕ → HomeBlock → HomeStep
 homeStepOn c x = cond (eqb c 0) (memoryStep x) (cond (eqb c 1) (memoryAck x) (evictLine x))
+
+-- what is refused by one or two words of the block: 7 for an empty queue, 6 and 5 for an eviction; 0 for nothing
+unfoldable pub refusalOf : ℕ → HomeBlock → ℕ
+refusalOf c x =
+    cond (eqb c 0) (cond (eqb (x .out .a .n0) 0) 7 0)
+    (cond (eqb c 1) (cond (eqb (x .back .a .n0) 0) 7 0) (cond (eqb (x .phase) 0) (cond (eqb (x .line .n0) 0) 5 0) 6))

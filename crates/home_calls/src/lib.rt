@@ -1,9 +1,11 @@
 // The calls at the home: taking, delivery from a tile, memory step, memory ack, home eviction.
 ghost use mathlib.Core.Path.{_≡_};
-ghost use Prim.Native.Nat.{_<_};
+ghost use Prim.Native.Nat.{_<_, _≤_};
+ghost use lib.ListN.{length};
+ghost use Rattle.words.specs.Blocks.{homeAt};
 ghost use Rattle.protocol.specs.Parts.{taking, fromTile, memoryStep, memoryAck, homeEviction};
 ghost use Rattle.bench_words.specs.Calls.{stepOn, answerOf, wordsAfter, homeCall};
-ghost use Rattle.home_calls.specs.Taken.{chosen, homeStepOn};
+ghost use Rattle.home_calls.specs.Taken.{chosen, homeStepOn, refusalOf};
 use bench_words::Answer;
 use home_steps::HomeStep;
 use words::HomeBlock;
@@ -28,6 +30,24 @@ fn home_step(c: u64, x: HomeBlock) -> HomeStep
     }
 }
 
+// What the words alone refuse: 7 for an empty queue to or from memory, 6 and 5 for an eviction; 0 for nothing.
+fn refusal_of(w: &[u64], c: u64) -> u64
+    requires { ⌜ 74 ≤ length (now w) ⌝ }
+    ensures { λ r. ⌜ r ≡ refusalOf c (homeAt (now (w .entry))) ⌝ }
+{
+    match c {
+        0 => if w[26] == 0 { 7 } else { 0 },
+        1 => if w[50] == 0 { 7 } else { 0 },
+        _ => {
+            if w[1] == 0 {
+                if w[2] == 0 { 5 } else { 0 }
+            } else {
+                6
+            }
+        }
+    }
+}
+
 // One of the calls at the home alone: 0 memory step, 1 memory ack, else home eviction.
 fn at_home(w: &mut [u64], c: u64) -> Answer
     ensures answer { λ r. ⌜ r ≡ answerOf (stepOn (now (w .entry)) (homeCall c)) ⌝ }
@@ -36,9 +56,14 @@ fn at_home(w: &mut [u64], c: u64) -> Answer
     let ok = bench_words::well_formed(w);
     if ok {
         let n = w[0];
-        let x = words::read_home(w);
-        let s = home_step(c, x);
-        posts::commit(w, n, 0, s)
+        let no = refusal_of(w, c);
+        if no == 0 {
+            let x = words::read_home(w);
+            let s = home_step(c, x);
+            posts::commit(w, n, 0, s)
+        } else {
+            bench_words::refused(no)
+        }
     } else {
         bench_words::refused(1)
     }
@@ -75,10 +100,14 @@ pub fn from_tile(w: &mut [u64], t: u64) -> Answer
         let n = w[0];
         if t < n {
             let at = 74 + 84 * (t as usize);
-            let h = words::read_home(w);
-            let m = words::read_row(w, at + 60);
-            let s = home_steps::accept(h, t, m);
-            posts::commit_with(w, n, 0, s, at + 60)
+            if w[at + 60] == 0 {
+                bench_words::refused(7)
+            } else {
+                let h = words::read_home(w);
+                let m = words::read_row(w, at + 60);
+                let s = home_steps::accept(h, t, m);
+                posts::commit_with(w, n, 0, s, at + 60)
+            }
         } else {
             bench_words::refused(2)
         }
@@ -95,12 +124,11 @@ pub fn taking(w: &mut [u64]) -> Answer
     let s = bench_words::survey_of(w);
     if s.ok {
         let n = w[0];
-        let h = words::read_home(w);
-        if h.phase == 0 {
-            let k = h.control;
-            let t = choose(s.ready, k.n0);
+        if w[1] == 0 {
+            let t = choose(s.ready, w[14]);
             if t < 64 {
                 let at = 74 + 84 * (t as usize);
+                let h = words::read_home(w);
                 let m = words::read_row(w, at + 12);
                 let done = home_steps::take(h, t, m);
                 posts::commit_with(w, n, t, done, at + 12)

@@ -8,6 +8,7 @@ use lib.ListN.{length}
 use Rattle.bits.specs.Mask.{has}
 use Rattle.words.specs.declared.Row.{Row}
 use Rattle.words.specs.declared.TileBlock.{TileBlock}
+use Rattle.words.specs.declared.HomeBlock.{HomeBlock}
 use Rattle.words.specs.Blocks.{tileAt, tileWords, homeWords, over, HomeFull}
 use Rattle.tile_steps.specs.Steps.{room, push, headed}
 use Rattle.home_parts.specs.declared.HomeStep.{HomeStep}
@@ -37,6 +38,13 @@ tellAll l at i to m (suc n) = tellAll (tellOne l at i to m) (at + 84) (i + 1) to
 -- the answer of a home step, with value v
 abbrev pub homeAnswer : HomeStep → ℕ → Answer
 homeAnswer s v = record { refusal = 0; kind = s .kind; value = v; sent = s .sent; tiles = s .to }
+
+-- A home step s that leaves what is of memory in the block x: its words, the queue from it, and the queue to it unless s puts a message there (4).
+pub record Kept (x : HomeBlock) (s : HomeStep) : Type 0 where
+  pub tiles : s .home .tiles ≡ x .tiles
+  pub memory : s .home .control .words ≡ x .control .words
+  pub out : (s .sent ≡ 4 → ⊥) → s .home .out ≡ x .out
+  pub back : s .home .back ≡ x .back
 
 -- A home step s committed to words l of n tiles, with k the words that it is written over, a the answer and m the words after it:
 -- refused, refused 9 for want of room, or done.

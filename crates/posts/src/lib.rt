@@ -3,10 +3,11 @@ ghost use mathlib.Core.Path.{_≡_};
 ghost use mathlib.Core.Bool.{true};
 ghost use Prim.Native.Nat.{_+_, _*_, _≤_, _<_};
 ghost use lib.ListN.{length};
+ghost use mathlib.Core.List.{_∷_, []};
 ghost use Rattle.tile_steps.specs.Steps.{room, push, pop};
-ghost use Rattle.words.specs.Blocks.{pairAt, tileAt, over, pairWords, tileWords, homeWords, HomeFull};
+ghost use Rattle.words.specs.Blocks.{pairAt, tileAt, homeAt, over, rowWords, pairWords, tileWords, homeWords, HomeFull};
 ghost use Rattle.bench_words.specs.Calls.{need};
-ghost use Rattle.posts.specs.Post.{rooms, toldTile, tellAll, homeAnswer, Committed};
+ghost use Rattle.posts.specs.Post.{rooms, toldTile, tellAll, homeAnswer, Kept, Committed};
 use bench_words::Answer;
 use home_steps::HomeStep;
 use words::Row;
@@ -118,16 +119,61 @@ pub fn commit(w: &mut [u64], n: u64, v: u64, s: HomeStep) -> Answer
     }
 }
 
-// A home step that takes the front message off the queue at place `at`.
+fn write_numbers(w: &mut [u64], at: usize, a: u64, b: u64, c: u64, d: u64)
+    requires { ⌜ at + 4 ≤ length (now w) ⌝ }
+    ensures { λ _. ⌜ now (w .exit) ≡ over (now (w .entry)) at (a ∷ b ∷ c ∷ d ∷ []) ⌝ }
+{
+    w[at] = a;
+    w[at + 1] = b;
+    w[at + 2] = c;
+    w[at + 3] = d;
+}
+
+// The home's phase, its line, and the numbers of its control row.
+fn write_line(w: &mut [u64], phase: u64, line: Row, a: u64, b: u64, c: u64, d: u64)
+    requires { ⌜ 74 ≤ length (now w) ⌝ }
+    ensures { λ _. ⌜ now (w .exit) ≡ over (over (over (now (w .entry)) 1 (phase ∷ [])) 2 (rowWords line)) 14 (a ∷ b ∷ c ∷ d ∷ []) ⌝ }
+    ensures full { λ _. ⌜ length (line .words) ≡ 8 ⌝ }
+{
+    w[1] = phase;
+    words::write_row(w, 2, line);
+    write_numbers(w, 14, a, b, c, d);
+}
+
+// The home's new block where the step keeps what is of memory: only the rest is written.
+fn write_kept(w: &mut [u64], s: HomeStep)
+    requires { ⌜ (74 ≤ length (now w)) × Kept (homeAt (now w)) s ⌝ }
+    ensures { λ _. ⌜ now (w .exit) ≡ over (now (w .entry)) 0 (homeWords (s .home)) ⌝ }
+    ensures full { λ _. ⌜ HomeFull (s .home) ⌝ }
+{
+    let x = s.home;
+    let c = x.control;
+    write_line(w, x.phase, x.line, c.n0, c.n1, c.n2, c.n3);
+    if s.sent == 4 {
+        words::write_pair(w, 26, x.out);
+    } else {}
+}
+
+fn finish_kept(w: &mut [u64], n: u64, s: HomeStep)
+    requires { ⌜ (need n ≤ length (now w)) × (n ≤ 64) × Kept (homeAt (now w)) s ⌝ }
+    ensures { λ _. ⌜ now (w .exit) ≡ tellAll (over (now (w .entry)) 0 (homeWords (s .home))) 74 0 (s .to) (s .forward) n ⌝ }
+    ensures home { λ _. ⌜ HomeFull (s .home) ⌝ }
+    ensures row { λ _. ⌜ length (s .forward .words) ≡ 8 ⌝ }
+{
+    write_kept(w, s);
+    tell_all(w, n, s.to, s.forward);
+}
+
+// A home step that takes the front message off the queue at place `at`, and keeps what is of memory.
 pub fn commit_with(w: &mut [u64], n: u64, v: u64, s: HomeStep, at: usize) -> Answer
-    requires { ⌜ (need n ≤ length (now w)) × (n ≤ 64) × (at + 24 ≤ length (now w)) ⌝ }
+    requires { ⌜ (need n ≤ length (now w)) × (n ≤ 64) × (74 ≤ at) × (at + 24 ≤ length (now w)) × Kept (homeAt (now w)) s ⌝ }
     ensures { λ r. ⌜ Committed (now (w .entry)) (over (now (w .entry)) at (pairWords (pop (pairAt (now (w .entry)) at)))) n v s r (now (w .exit)) ⌝ }
 {
     if s.refusal == 0 {
         let free = rooms(w, n, s.to);
         if free {
             pop_at(w, at);
-            finish(w, n, s);
+            finish_kept(w, n, s);
             home_answer(s, v)
         } else {
             bench_words::refused(9)

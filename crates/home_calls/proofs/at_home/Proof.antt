@@ -1,13 +1,11 @@
 use Prim.Native.Nat.{_<_}
-use mathlib.Core.Path.{refl, ap, sym, subst, _∙_}
+use mathlib.Core.Path.{ap, sym, _∙_}
 use native.Mathlib.Omega.{arith}
-use Rattle.words.specs.declared.HomeBlock.{HomeBlock}
-use Rattle.words.specs.declared.TileBlock.{TileBlock}
 use Rattle.bench_words.specs.Calls.{homeCall}
 use Rattle.home_calls.specs.Taken.{homeStepOn}
 use Rattle.bench_words.proofs.Decoded.{found}
 use Rattle.bench_words.proofs.Meets.{malformed}
-use Rattle.home_calls.proofs.HomeCalls.{home-done}
+use Rattle.home_calls.proofs.HomeCalls.{home-done, home-early}
 use borrow.Author.Needs.{needs}
 use Rattle.home_calls.proofs.at_home.Statement.{statement}
 use Rattle.home_calls.proofs.at_home.Tie as tie
@@ -15,21 +13,34 @@ use Rattle.home_calls.proofs.at_home.Tie as tie
 slice-read-n : tie.Need-slice-read-n
 slice-read-n c = omega (arith, found _ (sym (c .before .before .well-formed .ensures) ∙ c .before .if1 .taken) .long)
 
+refusal-of-requires : tie.Need-refusal-of-requires
+refusal-of-requires c κs = omega (arith, found _ (sym (c .before .before .before .well-formed .ensures) ∙ c .before .before .if1 .taken) .long)
+
 read-home-requires : tie.Need-read-home-requires
-read-home-requires c κs = omega (arith, found _ (sym (c .before .before .before .well-formed .ensures) ∙ c .before .before .if1 .taken) .long)
+read-home-requires c κs = omega (arith, found _ (sym (c .before .before .before .before .before .before .well-formed .ensures) ∙ c .before .before .before .before .before .if1 .taken) .long)
 
 commit-requires : tie.Need-commit-requires
-commit-requires c κs = (found _ (sym (c .before .before .before .before .before .before .well-formed .ensures) ∙ c .before .before .before .before .before .if1 .taken) .enough, found _ (sym (c .before .before .before .before .before .before .well-formed .ensures) ∙ c .before .before .before .before .before .if1 .taken) .most)
+commit-requires c κs =
+    let f = found _ (sym (c .before .before .before .before .before .before .before .before .before .well-formed .ensures) ∙ c .before .before .before .before .before .before .before .before .if1 .taken) in
+    (f .enough, f .most)
 
 returns : tie.Need-returns
 returns c =
-    let m = home-done (c .before .before .before .before .before .before .before .before .before .before .before .before .args .w .now) (sym (c .before .before .before .before .before .before .before .before .before .well-formed .ensures) ∙ c .before .before .before .before .before .before .before .before .if1 .taken) (c .before .before .before .before .before .before .before .before .before .before .before .before .args .c) (c .before .before .before .before .home-step .result) (c .before .before .before .before .home-step .ensures ∙ ap (homeStepOn (c .before .before .before .before .before .before .before .before .before .before .before .before .args .c)) (c .before .before .before .before .before .read-home .ensures)) _ _ (c .before .before .commit .ensures) in
+    let a = c .before .before .before .before .before .before .before .before .before .before .before .before .before .before .before .args in
+    let m = home-done (a .w .now) (sym (c .before .before .before .before .before .before .before .before .before .before .before .before .well-formed .ensures) ∙ c .before .before .before .before .before .before .before .before .before .before .before .if1 .taken) (a .c) _ (c .before .before .before .before .home-step .ensures ∙ ap (homeStepOn (a .c)) (c .before .before .before .before .before .read-home .ensures)) _ _ (c .before .before .commit .ensures) in
     (m .answer, m .words)
 
 returns-2 : tie.Need-returns-2
 returns-2 c =
-    let m = malformed (c .before .before .before .before .before .args .w .now) (homeCall (c .before .before .before .before .before .args .c)) (sym (c .before .before .well-formed .ensures) ∙ c .before .if1 .left) in
+    let a = c .before .before .before .before .before .before .before .before .before .args in
+    let m = home-early (a .w .now) (sym (c .before .before .before .before .before .before .well-formed .ensures) ∙ c .before .before .before .before .before .if1 .taken) (a .c) _ (c .before .before .refusal-of .ensures) (c .before .if2 .left) in
     (c .refused .ensures ∙ m .answer, m .words)
+
+returns-3 : tie.Need-returns-3
+returns-3 c =
+    let a = c .before .before .before .before .before .args in
+    let m = malformed (a .w .now) (homeCall (a .c)) (sym (c .before .before .well-formed .ensures) ∙ c .before .if1 .left) in
+    (c .refused2 .ensures ∙ m .answer, m .words)
 
 pub at-home-spec : {M : Type 1} → statement M
 at-home-spec =
@@ -37,11 +48,15 @@ at-home-spec =
     (tie.spec
     (λ c κs. search needs)
     slice-read-n
+    refusal-of-requires
     read-home-requires
     (λ c κs. search needs)
     commit-requires
     (λ c κs. search needs)
+    (λ c κs. search needs)
     (λ c. search needs)
     returns
     (λ c. search needs)
-    returns-2)
+    returns-2
+    (λ c. search needs)
+    returns-3)

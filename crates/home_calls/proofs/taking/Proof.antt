@@ -2,13 +2,13 @@ use Prim.Native.Nat.{_<_}
 use mathlib.Core.Path.{_≡_, _∙_}
 use mathlib.Core.Bool.{true, false}
 use native.Mathlib.Omega.{arith}
-use borrow.Author.Needs.{needs}
-use lib.ListN.{getD}
 use Rattle.protocol.specs.Parts.{taking}
 use Rattle.bench_words.specs.Calls.{wellFormed}
 use Rattle.bench_words.proofs.Decoded.{found}
 use Rattle.bench_words.proofs.Meets.{malformed}
-use Rattle.home_calls.proofs.HomeCalls.{formed, last-small, chosen-by, chosen-small, take-call, nobody-call, busy-call}
+use Rattle.home_calls.proofs.Keeps.{kept-take}
+use Rattle.home_calls.proofs.HomeCalls.{formed, last-there, small-there, take-there, nobody-there, busy-there}
+use borrow.Author.Needs.{needs}
 use Rattle.home_calls.proofs.taking.Statement.{statement}
 use Rattle.home_calls.proofs.taking.Tie as tie
 
@@ -19,70 +19,75 @@ slice-read-n c =
     let wf : wellFormed l ≡ true = formed l (sv .result) true (sv .ensures) (c .before .if1 .taken) in
     omega (arith, found l wf .long)
 
-read-home-requires : tie.Need-read-home-requires
-read-home-requires c κs =
+slice-read-if2 : tie.Need-slice-read-if2
+slice-read-if2 c =
     let l = c .before .before .before .before .before .before .args .w .now in
     let sv = c .before .before .before .survey-of in
     let wf : wellFormed l ≡ true = formed l (sv .result) true (sv .ensures) (c .before .before .if1 .taken) in
     omega (arith, found l wf .long)
 
+slice-read-choose : tie.Need-slice-read-choose
+slice-read-choose c =
+    let l = c .before .before .before .before .before .before .before .before .args .w .now in
+    let sv = c .before .before .before .before .before .survey-of in
+    let wf : wellFormed l ≡ true = formed l (sv .result) true (sv .ensures) (c .before .before .before .before .if1 .taken) in
+    omega (arith, found l wf .long)
+
 choose-requires : tie.Need-choose-requires
 choose-requires c κs =
-    let l = c .before .before .before .before .before .before .before .before .before .before .args .w .now in
-    let sv = c .before .before .before .before .before .before .before .survey-of in
-    let wf : wellFormed l ≡ true = formed l (sv .result) true (sv .ensures) (c .before .before .before .before .before .before .if1 .taken) in
-    let h = c .before .before .before .read-home in
-    omega (arith, last-small l wf (h .result) (h .ensures), found l wf .most)
+    let l = c .before .before .before .before .before .before .before .before .args .w .now in
+    let sv = c .before .before .before .before .before .survey-of in
+    let wf : wellFormed l ≡ true = formed l (sv .result) true (sv .ensures) (c .before .before .before .before .if1 .taken) in
+    omega (arith, last-there l wf, found l wf .most)
+
+read-home-requires : tie.Need-read-home-requires
+read-home-requires c κs =
+    let l = c .before .before .before .before .before .before .before .before .before .before .before .args .w .now in
+    let sv = c .before .before .before .before .before .before .before .before .survey-of in
+    let wf : wellFormed l ≡ true = formed l (sv .result) true (sv .ensures) (c .before .before .before .before .before .before .before .if1 .taken) in
+    omega (arith, found l wf .long)
 
 read-row-requires : tie.Need-read-row-requires
 read-row-requires c κs =
     let l = c .before .before .before .before .before .before .before .before .before .before .before .before .before .args .w .now in
     let sv = c .before .before .before .before .before .before .before .before .before .before .survey-of in
     let wf : wellFormed l ≡ true = formed l (sv .result) true (sv .ensures) (c .before .before .before .before .before .before .before .before .before .if1 .taken) in
-    let h = c .before .before .before .before .before .before .read-home in
-    let t = c .before .before .choose in
-    let et = chosen-by l wf (h .result) (h .ensures) (sv .result) (sv .ensures) (t .result) (t .ensures) in
-    omega (arith, found l wf .enough, chosen-small l wf (h .result) (h .ensures) (t .result) et (c .before .if3 .taken))
+    let t = c .before .before .before .before .choose in
+    omega (arith, found l wf .enough, small-there l wf (sv .result) (sv .ensures) (t .result) (t .ensures) (c .before .before .before .if3 .taken))
 
 commit-with-requires : tie.Need-commit-with-requires
 commit-with-requires c κs =
     let l = c .before .before .before .before .before .before .before .before .before .before .before .before .before .before .before .before .args .w .now in
     let sv = c .before .before .before .before .before .before .before .before .before .before .before .before .before .survey-of in
     let wf : wellFormed l ≡ true = formed l (sv .result) true (sv .ensures) (c .before .before .before .before .before .before .before .before .before .before .before .before .if1 .taken) in
-    let h = c .before .before .before .before .before .before .before .before .before .read-home in
-    let t = c .before .before .before .before .before .choose in
-    let et = chosen-by l wf (h .result) (h .ensures) (sv .result) (sv .ensures) (t .result) (t .ensures) in
-    (found l wf .enough, found l wf .most, omega (arith, found l wf .enough, chosen-small l wf (h .result) (h .ensures) (t .result) et (c .before .before .before .before .if3 .taken)))
+    let t = c .before .before .before .before .before .before .before .choose in
+    (found l wf .enough, found l wf .most, omega arith, omega (arith, found l wf .enough, small-there l wf (sv .result) (sv .ensures) (t .result) (t .ensures) (c .before .before .before .before .before .before .if3 .taken)), kept-take _ _ (c .before .before .before .before .read-home .ensures) _ _ _ (c .before .take .ensures))
 
 returns : tie.Need-returns
 returns c =
     let l = c .before .before .before .before .before .before .before .before .before .before .before .before .before .before .before .before .before .before .before .args .w .now in
     let sv = c .before .before .before .before .before .before .before .before .before .before .before .before .before .before .before .before .survey-of in
     let wf : wellFormed l ≡ true = formed l (sv .result) true (sv .ensures) (c .before .before .before .before .before .before .before .before .before .before .before .before .before .before .before .if1 .taken) in
-    let h = c .before .before .before .before .before .before .before .before .before .before .before .before .read-home in
-    let t = c .before .before .before .before .before .before .before .before .choose in
-    let et = chosen-by l wf (h .result) (h .ensures) (sv .result) (sv .ensures) (t .result) (t .ensures) in
-    let m = take-call l wf (h .result) (h .ensures) (t .result) _ _ _ _ (c .before .before .before .before .before .before .before .before .before .before .if2 .taken) et (c .before .before .before .before .before .before .before .if3 .taken) (c .before .before .before .before .before .read-row .ensures) (c .before .before .before .before .take .ensures) (c .before .before .commit-with .ensures) in
+    let t = c .before .before .before .before .before .before .before .before .before .before .choose in
+    let h = c .before .before .before .before .before .before .before .read-home in
+    let m = take-there l wf (sv .result) (sv .ensures) (t .result) (t .ensures) (h .result) (h .ensures) _ _ _ _ (c .before .before .before .before .before .before .before .before .before .before .before .before .if2 .taken) (c .before .before .before .before .before .before .before .before .before .if3 .taken) (c .before .before .before .before .before .read-row .ensures) (c .before .before .before .before .take .ensures) (c .before .before .commit-with .ensures) in
     (m .answer, m .words)
 
 returns-2 : tie.Need-returns-2
 returns-2 c =
-    let l = c .before .before .before .before .before .before .before .before .before .before .before .before .before .args .w .now in
-    let sv = c .before .before .before .before .before .before .before .before .before .before .survey-of in
-    let wf : wellFormed l ≡ true = formed l (sv .result) true (sv .ensures) (c .before .before .before .before .before .before .before .before .before .if1 .taken) in
-    let h = c .before .before .before .before .before .before .read-home in
+    let l = c .before .before .before .before .before .before .before .before .before .before .before .args .w .now in
+    let sv = c .before .before .before .before .before .before .before .before .survey-of in
+    let wf : wellFormed l ≡ true = formed l (sv .result) true (sv .ensures) (c .before .before .before .before .before .before .before .if1 .taken) in
     let t = c .before .before .choose in
-    let et = chosen-by l wf (h .result) (h .ensures) (sv .result) (sv .ensures) (t .result) (t .ensures) in
-    let m = nobody-call l wf (h .result) (h .ensures) (c .before .before .before .before .if2 .taken) (t .result) et (c .before .if3 .left) in
+    let m = nobody-there l wf (sv .result) (sv .ensures) (t .result) (t .ensures) (c .before .before .before .before .if2 .taken) (c .before .if3 .left) in
     (c .refused .ensures ∙ m .answer, m .words)
 
 returns-3 : tie.Need-returns-3
 returns-3 c =
-    let l = c .before .before .before .before .before .before .before .before .before .before .args .w .now in
-    let sv = c .before .before .before .before .before .before .before .survey-of in
-    let wf : wellFormed l ≡ true = formed l (sv .result) true (sv .ensures) (c .before .before .before .before .before .before .if1 .taken) in
-    let h = c .before .before .before .read-home in
-    let m = busy-call l wf (h .result) (h .ensures) (c .before .if2 .left) in
+    let l = c .before .before .before .before .before .before .before .before .args .w .now in
+    let sv = c .before .before .before .before .before .survey-of in
+    let wf : wellFormed l ≡ true = formed l (sv .result) true (sv .ensures) (c .before .before .before .before .if1 .taken) in
+    let m = busy-there l wf (c .before .if2 .left) in
     (c .refused2 .ensures ∙ m .answer, m .words)
 
 returns-4 : tie.Need-returns-4
@@ -98,10 +103,12 @@ taking-spec =
     (tie.spec
     (λ c κs. search needs)
     slice-read-n
-    read-home-requires
+    slice-read-if2
+    slice-read-choose
     choose-requires
     (λ c. search needs)
     (λ c. search needs)
+    read-home-requires
     (λ c. search needs)
     read-row-requires
     (λ c κs. search needs)
