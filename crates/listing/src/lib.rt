@@ -6,7 +6,7 @@ ghost use Prim.Native.Nat.{_+_, _*_, _≤_, _<_};
 ghost use mathlib.Core.List.{_∷_, [], _++_};
 ghost use lib.ListN.{length};
 ghost use Rattle.lists.specs.Over.{Put, Placed};
-ghost use Rattle.listing.specs.Lines.{digitByte, digits, hex16, hex12, decimal, refusedText, atText, numberThen, benchLine, callLine, flitText, flitsText, messageLine, endLine, refusedLine};
+ghost use Rattle.listing.specs.Lines.{digitByte, digits, hex16, hex12, decimalFrom, decimal, refusedText, atText, numberThen, benchLine, callLine, flitText, flitsText, messageLine, endLine, refusedLine};
 
 fn digit(d: u64) -> u8
     requires { ⌜ d < 16 ⌝ }
@@ -52,17 +52,39 @@ fn put_digits(buf: &mut [u8], at: usize, base: u64, count: usize, n: u64) -> usi
     at + count
 }
 
-// How many decimal digits a number has.
+// How many decimal digits a number below 10000 has.
+fn short_width(n: u64) -> usize
+    requires { ⌜ n < 10000 ⌝ }
+    ensures { λ r. ⌜ (r ≡ length (decimalFrom 4 n)) × (r ≤ 4) ⌝ }
+{
+    if n < 100 {
+        if n < 10 { 1 } else { 2 }
+    } else {
+        if n < 1000 { 3 } else { 4 }
+    }
+}
+
+// How many decimal digits a number has: by one division, not one for each digit.
 fn width(n: u64) -> usize
     ensures { λ r. ⌜ (r ≡ length (decimal n)) × (r ≤ 20) ⌝ }
 {
-    let mut rest = n;
-    let mut w = 1;
-    while 10 <= rest {
-        rest = rest / 10;
-        w += 1;
+    if n < 10000 {
+        short_width(n)
+    } else {
+        if n < 100000000 {
+            4 + short_width(n / 10000)
+        } else {
+            if n < 1000000000000 {
+                8 + short_width(n / 100000000)
+            } else {
+                if n < 10000000000000000 {
+                    12 + short_width(n / 1000000000000)
+                } else {
+                    16 + short_width(n / 10000000000000000)
+                }
+            }
+        }
     }
-    w
 }
 
 fn put_number(buf: &mut [u8], at: usize, n: u64) -> usize

@@ -1,18 +1,26 @@
 -- The tiles of a mask found one after the other, and the queues of them. Assumes nothing.
-use Prim.Native.Nat.{ℕ, zero, suc, _+_, _-_, _≤_, _<_}
-use mathlib.Core.Path.{_≡_, refl, ap, sym, _∙_}
+use Prim.Native.Nat.{ℕ, zero, suc, _+_, _-_, _/_, _%_, _^_, _≤_, _<_}
+use mathlib.Core.Path.{_≡_, refl, ap, sym, subst, _∙_}
 use mathlib.Core.Bool.{Bool, true, false, cond, _&&_, false≢true}
 use mathlib.Core.List.{List, [], _∷_}
 use native.Mathlib.Omega.{arith}
 use native.Mathlib.Nat.{zero-add, add-assoc}
+use native.Mathlib.Numerals.{add-one}
 use lib.Dec.{eqb, ltb, leb}
 use lib.ListN.{length, getD}
+use lib.Pow.{shr-shr, shr-lt}
+use lib.Count.{ones, ones-step, ones-le}
 use borrow.Author.Tests.{lt-ltb, ne-eqb, eqb-true}
 use Rattle.bits.specs.Mask.{has}
+use Rattle.find_first.specs.Next.{next}
+use Rattle.find_first.proofs.NextLaws.{skip-to-next}
 use Rattle.protocol.specs.Home.{range, among, members}
 use Rattle.sent.specs.declared.Place.{Place}
 use Rattle.sent.specs.Places.{place, nowhere, ofTile, each, both, placesOf}
 use Rattle.sent.proofs.Rising.{Rising, members-rising}
+
+up-one : (m i : ℕ) → m / 2 ^ suc i ≡ m / 2 ^ i / 2
+up-one m i = ap (λ (k : ℕ). m / 2 ^ k) (sym (add-one i)) ∙ sym (shr-shr m i 1)
 
 -- the tiles of a mask from t on
 unfoldable pub from : ℕ → ℕ → List ℕ
@@ -33,63 +41,51 @@ pub from-end : (m t : ℕ) → 64 ≤ t → from m t ≡ []
 unfolding from among range
 from-end m t h = let e : 64 - t ≡ 0 = omega arith in ap (λ (k : ℕ). among m (range t k)) e
 
--- one turn of the search
+-- the tiles before the next one are not in the mask
+from-skip : (m t : ℕ) → t ≤ 64 → from m t ≡ from m (next m t)
+unfolding from among range
+from-skip m t h = skip-to-next (λ i k. among m (range i k)) m 64 (omega arith) (λ i k e. rw e) (λ i j. refl) t h
+
+pub search-start : (m i t : ℕ) → t ≡ next m 0 → getD (from m t) i 64 ≡ getD (members m 64) i 64
+search-start m i t e = ap (λ (l : List ℕ). getD l i 64) (ap (from m) e ∙ sym (from-skip m 0 (omega arith)) ∙ from-start m)
+
+-- one turn of the search: tile t is in
+module _ (m t left : ℕ) (below : t < 64) (is : has m t ≡ true) where
+  here : from m t ≡ t ∷ from m (t + 1)
+  here = from-turn m t below ∙ ap (λ (b : Bool). cond b (t ∷ from m (t + 1)) (from m (t + 1))) is
+
+  pub turn-hit : left ≡ 0 → t ≡ getD (from m t) left 64
+  turn-hit z = rw (here, z)
+
+  pub turn-miss : (u : ℕ) → (left ≡ 0 → ⊥) → u ≡ next m (t + 1) → getD (from m u) (left - 1) 64 ≡ getD (from m t) left 64
+  turn-miss u z e = ap (λ (l : List ℕ). getD l (left - 1) 64) (ap (from m) e ∙ sym (from-skip m (t + 1) (omega arith))) ∙ go left z ∙ sym (ap (λ (l : List ℕ). getD l left 64) here)
+    where
+      go : (left : ℕ) → (left ≡ 0 → ⊥) → getD (from m (t + 1)) (left - 1) 64 ≡ getD (t ∷ from m (t + 1)) left 64
+      go zero z = absurd (z refl)
+      go (suc n) z = let d : suc n - 1 ≡ n = omega arith in ap (λ (k : ℕ). getD (from m (t + 1)) k 64) d
+
 pub end-none : (m t left : ℕ) → 64 ≤ t → 64 ≡ getD (from m t) left 64
 end-none m t left h = rw (from-end m t h)
 
-pub end-count : (m t n : ℕ) → 64 ≤ t → n + length (from m t) ≡ length (members m 64) → n ≡ length (members m 64)
-end-count m t n h e = let z : n ≡ n + length (from m t) = rw (from-end m t h) (omega arith) in z ∙ e
-
-hit : (m t left : ℕ) → t < 64 → (has m t && eqb left 0) ≡ true → t ≡ getD (from m t) left 64
-hit m t left h e = rw (from-turn m t h) (go (has m t) left e)
+-- a mask has as many tiles as ones
+ones-from : (k m t : ℕ) → m / 2 ^ t < 2 ^ k → length (among m (range t k)) ≡ ones (m / 2 ^ t)
+unfolding among range has
+ones-from zero m t h = let z : m / 2 ^ t ≡ 0 = omega arith in sym (ap ones z ∙ none)
   where
-    go : (b : Bool) (left : ℕ) → (b && eqb left 0) ≡ true → t ≡ getD (cond b (t ∷ from m (t + 1)) (from m (t + 1))) left 64
-    go true zero e = refl
-    go true (suc n) e = let z : suc n ≡ 0 = eqb-true (suc n) 0 e in absurd (omega arith)
-    go false left e = absurd (false≢true e)
-
-miss : (m t left : ℕ) → t < 64 → (has m t && eqb left 0) ≡ false → getD (from m t) left 64 ≡ getD (from m (t + 1)) (left - cond (has m t) 1 0) 64
-miss m t left h e = rw (from-turn m t h) (go (has m t) left e)
+    none : ones 0 ≡ 0
+    none = let b : ones 0 ≤ 0 = ones-le 0 0 (omega arith) in omega (arith, b)
+ones-from (suc k) m t h =
+    let half : m / 2 ^ t / 2 < 2 ^ k = shr-lt k 1 (subst (λ (x : ℕ). m / 2 ^ t < 2 ^ x) (sym (add-one k)) h) in
+    go (m / 2 ^ t % 2) refl (ones-from k m (suc t) (subst (λ (x : ℕ). x < 2 ^ k) (sym (up-one m t)) half)) ∙ sym (ones-step (m / 2 ^ t))
   where
-    go : (b : Bool) (left : ℕ) → (b && eqb left 0) ≡ false → getD (cond b (t ∷ from m (t + 1)) (from m (t + 1))) left 64 ≡ getD (from m (t + 1)) (left - cond b 1 0) 64
-    go true zero e = absurd (false≢true (sym e))
-    go true (suc n) e = let z : n ≡ suc n - 1 = omega arith in ap (λ (k : ℕ). getD (from m (t + 1)) k 64) z
-    go false n e = let z : n ≡ n - 0 = omega arith in ap (λ (k : ℕ). getD (from m (t + 1)) k 64) z
+    go : (r : ℕ) → m / 2 ^ t % 2 ≡ r → length (among m (range (suc t) k)) ≡ ones (m / 2 ^ suc t) → length (cond (eqb r 1) (t ∷ among m (range (suc t) k)) (among m (range (suc t) k))) ≡ m / 2 ^ t % 2 + ones (m / 2 ^ t / 2)
+    go zero e ih = ih ∙ ap ones (up-one m t) ∙ omega arith
+    go (suc zero) e ih = ap suc (ih ∙ ap ones (up-one m t)) ∙ omega arith
+    go (suc (suc r)) e ih = absurd (omega arith)
 
-enough : (b : Bool) (left : ℕ) → (b && eqb left 0) ≡ false → cond b 1 0 ≤ left
-enough true zero e = absurd (false≢true (sym e))
-enough true (suc left) e = omega arith
-enough false left e = omega arith
-
-counted : (m t : ℕ) → t < 64 → length (from m t) ≡ cond (has m t) 1 0 + length (from m (t + 1))
-counted m t h = rw (from-turn m t h) (go (has m t))
-  where
-    go : (b : Bool) → length (cond b (t ∷ from m (t + 1)) (from m (t + 1))) ≡ cond b 1 0 + length (from m (t + 1))
-    go true = omega arith
-    go false = omega arith
-
--- as the search's turn has them: whether tile t is in, whether it is reached, and one less left where it is in
-module _ (m t left : ℕ) (h r : Bool) (below : t < 64) (is : h ≡ has m t) (test : r ≡ (h && eqb left 0)) where
-  pub turn-hit : r ≡ true → t ≡ getD (from m t) left 64
-  turn-hit e = hit m t left below (ap (λ (b : Bool). b && eqb left 0) (sym is) ∙ sym test ∙ e)
-
-  pub turn-less : (o : ℕ) → r ≡ false → o ≡ cond h 1 0 → o ≤ left
-  turn-less o e q = rw q (enough h left (sym test ∙ e))
-
-  pub turn-miss : (o : ℕ) → r ≡ false → o ≡ cond h 1 0 → getD (from m (t + 1)) (left - o) 64 ≡ getD (from m t) left 64
-  turn-miss o e q = ap (λ (k : ℕ). getD (from m (t + 1)) (left - k) 64) (q ∙ ap (λ (b : Bool). cond b 1 0) is) ∙ sym (miss m t left below (ap (λ (b : Bool). b && eqb left 0) (sym is) ∙ sym test ∙ e))
-
--- as the count's turn has them
-module _ (m t n : ℕ) (h : Bool) (o : ℕ) (below : t < 64) (is : h ≡ has m t) (one : o ≡ cond h 1 0) where
-  small : (b : Bool) → cond b 1 0 ≤ 1
-  small true = omega arith
-  small false = omega arith
-
-  pub count-one : o ≤ 1
-  count-one = rw one (small h)
-
-  pub count-turn : n + o + length (from m (t + 1)) ≡ n + length (from m t)
-  count-turn = let e : o ≡ cond (has m t) 1 0 = one ∙ ap (λ (b : Bool). cond b 1 0) is in rw (counted m t below) (omega arith)
+pub ones-count : (m : ℕ) → m < 2 ^ 64 → ones m ≡ length (members m 64)
+unfolding members
+ones-count m h = let e : m / 2 ^ 0 ≡ m = omega arith in sym (ones-from 64 m 0 (subst (λ (x : ℕ). x < 2 ^ 64) (sym e) h) ∙ ap ones e)
 
 -- the i-th queue of a list of tiles
 each-at : (q i n : ℕ) (us : List ℕ) → Rising n 64 us → getD (each q us) i nowhere ≡ ofTile q (getD us i 64)

@@ -1,7 +1,5 @@
 // Where the messages that a call sent stand after it. An answer says in two numbers on which queues and of which tiles.
 ghost use mathlib.Core.Path.{_≡_};
-ghost use mathlib.Core.Bool.{cond, _&&_};
-ghost use lib.Dec.{eqb, ltb};
 ghost use lib.ListN.{length, getD};
 ghost use Rattle.protocol.specs.Home.{members};
 ghost use Rattle.sent.specs.Places.{place, nowhere, ofTile, placesOf};
@@ -12,31 +10,18 @@ pub struct Place {
     pub tile: u64,
 }
 
-fn one_if(b: bool) -> u64
-    ensures { λ r. ⌜ r ≡ cond b 1 0 ⌝ }
-{
-    if b { 1 } else { 0 }
-}
-
-fn reached(here: bool, left: u64) -> bool
-    ensures { λ r. ⌜ r ≡ here && eqb left 0 ⌝ }
-{
-    here & (left == 0)
-}
-
 // The tile of the mask m that has i of its tiles below it; 64 where there is none.
 fn member(m: u64, i: u64) -> u64
     ensures { λ r. ⌜ r ≡ getD (members m 64) i 64 ⌝ }
 {
     let mut left = i;
-    let mut t: u64 = 0;
+    let mut t = find_first::next(m, 0);
     while t < 64 {
-        let here = bits::has(m, t);
-        if reached(here, left) {
+        if left == 0 {
             return t;
         }
-        left = left - one_if(here);
-        t = t + 1;
+        left = left - 1;
+        t = find_first::next(m, t + 1);
     }
     64
 }
@@ -45,13 +30,7 @@ fn member(m: u64, i: u64) -> u64
 fn member_count(m: u64) -> u64
     ensures { λ r. ⌜ r ≡ length (members m 64) ⌝ }
 {
-    let mut n: u64 = 0;
-    let mut t: u64 = 0;
-    while t < 64 {
-        n = n + one_if(bits::has(m, t));
-        t = t + 1;
-    }
-    n
+    u64::count_ones(m) as u64
 }
 
 fn of_tile(queue: u64, tile: u64) -> Place

@@ -1,32 +1,38 @@
-use Prim.Native.Nat.{_+_, _-_, _^_, _≤_, _<_}
-use mathlib.Core.Path.{_≡_, refl}
-use native.Mathlib.Omega.{arith}
-use lib.ListN.{length}
-use Rattle.listing.specs.Lines.{decimalFrom, decimal}
-use Rattle.listing.proofs.Digits.{count-turn, counted}
+use borrow.Author.Needs.{needs}
+use Rattle.listing.proofs.Digits.{below-4, below-8, below-12, below-16, below-20}
 use Rattle.listing.proofs.width.Statement.{statement}
 use Rattle.listing.proofs.width.Tie as tie
 
-abbrev Inv-loop : tie.InvT-loop
-Inv-loop n rest₀ w₀ rest w = (1 ≤ w) × (w ≤ 20) × (rest < 10 ^ (21 - w)) × (w + length (decimalFrom (21 - w) rest) ≡ 1 + length (decimal n))
+returns : tie.Need-returns
+returns c = below-4 _ _ (c .before .if1 .taken) (c .short-width .ensures)
 
-abbrev μ-loop : tie.MeasureT-loop
-μ-loop n rest₀ w₀ rest w = rest
+returns-2 : tie.Need-returns-2
+returns-2 c = below-8 _ _ (c .before .before .if1 .left) (c .before .if2 .taken) (c .short-width2 .ensures)
 
-loop-holds : tie.Need-loop-holds Inv-loop μ-loop
-loop-holds c = (omega arith, omega arith, omega arith, refl)
+returns-3 : tie.Need-returns-3
+returns-3 c = below-12 _ _ (c .before .before .if2 .left) (c .before .if3 .taken) (c .short-width3 .ensures)
 
-add-w : tie.Need-add-w Inv-loop μ-loop
-add-w c = omega arith
+returns-4 : tie.Need-returns-4
+returns-4 c = below-16 _ _ (c .before .before .if3 .left) (c .before .if4 .taken) (c .short-width4 .ensures)
 
-loop-less : tie.Need-loop-less Inv-loop μ-loop
-loop-less c = omega arith
-
-loop-again : tie.Need-loop-again Inv-loop μ-loop
-loop-again c = count-turn _ _ _ (c .before .loop .inv .0) (c .before .loop .inv .1) (c .before .loop .inv .2) (c .before .loop .inv .3) (c .loop-test .taken)
-
-returns : tie.Need-returns Inv-loop μ-loop
-returns c = counted _ _ _ (c .before .loop .inv .0) (c .before .loop .inv .1) (c .loop-test .left) (c .before .loop .inv .3)
+returns-5 : tie.Need-returns-5
+returns-5 c = below-20 _ _ (c .before .if4 .left) (c .short-width5 .ensures)
 
 pub width-spec : {M : Type 1} → statement M
-width-spec = tie.close (tie.spec Inv-loop μ-loop loop-holds add-w loop-less loop-again returns)
+width-spec =
+    tie.close
+    (tie.spec
+    (λ c κs. search needs)
+    (λ c κs. search needs)
+    (λ c. search needs)
+    (λ c κs. search needs)
+    (λ c. search needs)
+    (λ c κs. search needs)
+    (λ c. search needs)
+    (λ c κs. search needs)
+    (λ c. search needs)
+    returns
+    returns-2
+    returns-3
+    returns-4
+    returns-5)

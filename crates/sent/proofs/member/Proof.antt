@@ -1,41 +1,60 @@
-use Prim.Native.Nat.{_+_, _-_, _≤_}
-use Prim.Native.Nat.{ℕ}
-use mathlib.Core.List.{List}
-use mathlib.Core.Path.{_≡_, refl, ap, sym, _∙_}
+use Prim.Native.Nat.{ℕ, _+_, _-_, _≤_, _<_}
+use mathlib.Core.Path.{_≡_, sym, subst, _∙_}
+use mathlib.Core.Bool.{Bool, true}
 use native.Mathlib.Omega.{arith}
-use lib.ListN.{length, getD}
+use lib.ListN.{getD}
 use borrow.Author.Needs.{needs}
+use Rattle.bits.specs.Mask.{has}
+use Rattle.find_first.specs.Next.{next}
+use Rattle.find_first.proofs.NextLaws.{next-in, next-from}
 use Rattle.protocol.specs.Home.{members}
-use Rattle.sent.proofs.Members.{from, from-start, turn-hit, turn-less, turn-miss, end-none}
+use Rattle.sent.proofs.Members.{from, search-start, turn-hit, turn-miss, end-none}
 use Rattle.sent.proofs.member.Statement.{statement}
 use Rattle.sent.proofs.member.Tie as tie
 
 abbrev Inv-loop : tie.InvT-loop
-Inv-loop m i left₀ t₀ left t = (t ≤ 64) × (getD (from m t) left 64 ≡ getD (members m 64) i 64)
+Inv-loop m i left₀ t₀ left t = (getD (from m t) left 64 ≡ getD (members m 64) i 64) × (t < 64 → has m t ≡ true)
 
 abbrev μ-loop : tie.MeasureT-loop
 μ-loop m i left₀ t₀ left t = 64 - t
 
 loop-holds : tie.Need-loop-holds Inv-loop μ-loop
-loop-holds c = (omega arith, ap (λ (l : List ℕ). getD l (c .args .i) 64) (from-start (c .args .m)))
+loop-holds c =
+    let m = c .before .args .m in
+    let e = c .next .ensures in
+    (search-start m (c .before .args .i) (c .next .result) e, λ s. subst (λ (x : ℕ). has m x ≡ true) (sym e) (next-in m 0 (subst (λ (x : ℕ). x < 64) e s)))
 
 returns : tie.Need-returns Inv-loop μ-loop
-returns c = turn-hit (c .before .before .before .before .before .args .m) (c .before .before .before .before .loop .t) (c .before .before .before .before .loop .left) (c .before .before .has .result) (c .before .reached .result) (c .before .before .before .loop-test .taken) (c .before .before .has .ensures) (c .before .reached .ensures) (c .if1 .taken) ∙ c .before .before .before .before .loop .inv .1
+returns c =
+    turn-hit (c .before .before .before .before .args .m) (c .before .before .loop .t) (c .before .before .loop .left) (c .before .loop-test .taken) (c .before .before .loop .inv .1 (c .before .loop-test .taken)) (c .if1 .taken)
+    ∙ c .before .before .loop .inv .0
 
 sub-left : tie.Need-sub-left Inv-loop μ-loop
-sub-left c = turn-less (c .before .before .before .before .before .before .args .m) (c .before .before .before .before .before .loop .t) (c .before .before .before .before .before .loop .left) (c .before .before .before .has .result) (c .before .before .reached .result) (c .before .before .before .before .loop-test .taken) (c .before .before .before .has .ensures) (c .before .before .reached .ensures) (c .one-if .result) (c .before .if1 .left) (c .one-if .ensures)
+sub-left c = omega arith
 
-add-t : tie.Need-add-t Inv-loop μ-loop
-add-t c = omega arith
+add-next : tie.Need-add-next Inv-loop μ-loop
+add-next c = omega arith
 
 loop-less : tie.Need-loop-less Inv-loop μ-loop
-loop-less c = omega arith
+loop-less c =
+    let t = c .before .before .before .loop .t in
+    let s : t < 64 = c .before .before .loop-test .taken in
+    let f : t + 1 ≤ next (c .before .before .before .before .before .args .m) (t + 1) = next-from (c .before .before .before .before .before .args .m) (t + 1) (omega arith) in
+    let g : c .next2 .result ≡ next (c .before .before .before .before .before .args .m) (t + 1) = c .next2 .ensures in
+    omega arith
 
 loop-again : tie.Need-loop-again Inv-loop μ-loop
-loop-again c = (omega arith, turn-miss (c .before .before .before .before .before .before .args .m) (c .before .before .before .before .before .loop .t) (c .before .before .before .before .before .loop .left) (c .before .before .before .has .result) (c .before .before .reached .result) (c .before .before .before .before .loop-test .taken) (c .before .before .before .has .ensures) (c .before .before .reached .ensures) (c .one-if .result) (c .before .if1 .left) (c .one-if .ensures) ∙ c .before .before .before .before .before .loop .inv .1)
+loop-again c =
+    let m = c .before .before .before .before .before .args .m in
+    let t = c .before .before .before .loop .t in
+    let s : t < 64 = c .before .before .loop-test .taken in
+    let e = c .next2 .ensures in (
+      turn-miss m t (c .before .before .before .loop .left) s (c .before .before .before .loop .inv .1 s) (c .next2 .result) (c .before .if1 .left) e ∙ c .before .before .before .loop .inv .0,
+      λ q. subst (λ (x : ℕ). has m x ≡ true) (sym e) (next-in m (t + 1) (subst (λ (x : ℕ). x < 64) e q)),
+    )
 
 returns-2 : tie.Need-returns-2 Inv-loop μ-loop
-returns-2 c = end-none (c .before .before .args .m) (c .before .loop .t) (c .before .loop .left) (c .loop-test .left) ∙ c .before .loop .inv .1
+returns-2 c = end-none (c .before .before .before .args .m) (c .before .loop .t) (c .before .loop .left) (c .loop-test .left) ∙ c .before .loop .inv .0
 
 pub member-spec : {M : Type 1} → statement M
 member-spec =
@@ -43,13 +62,12 @@ member-spec =
     (tie.spec
     Inv-loop
     μ-loop
+    (λ c κs. search needs)
     loop-holds
-    (λ c κs. search needs)
-    (λ c κs. search needs)
     returns
-    (λ c κs. search needs)
     sub-left
-    add-t
+    add-next
+    (λ c κs. search needs)
     loop-less
     loop-again
     returns-2)
