@@ -25,7 +25,7 @@ use Rattle.codec.specs.Sent.{sentOn, sentTo}
 use Rattle.codec.proofs.Canonical.{home-canonical}
 use Rattle.tile_steps.specs.declared.TileStep.{TileStep}
 use Rattle.tile_steps.specs.declared.Told.{Told}
-use Rattle.tile_steps.specs.InPlace.{Stepped, told}
+use Rattle.tile_steps.specs.InPlace.{Stepped}
 use Rattle.tile_steps.proofs.InPlace.{put-same}
 use Rattle.tile_steps.specs.Steps.{refuse, done, loadOn, storeOn, evictOn, deliverOn, tileStepOn}
 use Rattle.tile_steps.proofs.Rules.{ownOne, ownTo, ownAll, encAfter, encStep, load-rule, store-rule, evict-rule, deliver-rule}

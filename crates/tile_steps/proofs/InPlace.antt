@@ -1,26 +1,25 @@
 -- Laws of a tile's block changed in place: writing a part of it is writing the whole block with that part changed. Assumes nothing.
-use Prim.Native.Nat.{ℕ, suc, _+_, _-_, _≤_, _<_, min}
+use Prim.Native.Nat.{ℕ, _+_, _-_, _≤_, _<_}
 use mathlib.Core.Path.{_≡_, refl, ap, sym, _∙_, subst}
 use mathlib.Core.Bool.{true, false}
 use mathlib.Core.Logic.{_⊎_}
 use mathlib.Core.List.{List, [], _∷_, _++_, append-assoc}
 use native.Mathlib.Omega.{arith}
-use native.Mathlib.Nat.{add-assoc, add-zero}
 use lib.ListN.{length, getD, set, take, drop, length-append, length-take, length-drop, length-set, take-append-drop}
-use lib.Seq.{drop-append-add, drop-drop, take-take, length-take-le, take-at, drop-at, take-add, set-split, getD-take, getD-drop, take-set-lt, drop-set-add, take-set-le, drop-set-lt}
+use lib.Seq.{drop-drop, take-take, length-take-le, drop-at, getD-take, getD-drop, take-set-lt, drop-set-add, take-set-le, drop-set-lt}
 use borrow.Author.Tests.{eq-eqb, ne-eqb, lt-ltb, le-ltb}
 use Rattle.words.specs.declared.Row.{Row}
 use Rattle.words.specs.declared.Pair.{Pair}
 use Rattle.words.specs.declared.TileBlock.{TileBlock}
-use Rattle.words.specs.Blocks.{over, rowAt, pairAt, tileAt, rowWords, pairWords, tileWords, PairFull, TileFull}
-use Rattle.words.proofs.Over.{length-over, over-over, join, row-words, pair-words, tile-words, length-row, length-pair, length-tile, eight, then-over, write-pair}
+use Rattle.words.specs.Blocks.{over, rowAt, pairAt, tileAt, rowWords, pairWords, tileWords, PairFull}
+use Rattle.words.proofs.Over.{length-over, over-over, join, row-words, pair-words, tile-words, length-pair, length-tile, eight, then-over, write-pair}
 use Rattle.words.proofs.Reading.{row-full, pair-full, tile-full, tile-at, over-behind, over-front}
 use Rattle.codec.specs.Encode.{zeros, row, noRow}
 use Rattle.tile_steps.specs.declared.TileStep.{TileStep}
-use Rattle.tile_steps.specs.Steps.{refuse, done, room, push, pop, headed, asks, loadOn, storeOn, dropped, writesBack, evictOn, answers, fills, onLoadFwd, onStoreFwd, onInvFwd, onForward, onStoreFill, onLoadFill, onDataAck, deliverOn, tileStepOn}
+use Rattle.tile_steps.specs.Steps.{refuse, room, push, pop, headed, asks, loadOn, storeOn, dropped, writesBack, evictOn, answers, fills, onLoadFwd, onStoreFwd, onInvFwd, onForward, onStoreFill, onLoadFill, onDataAck, deliverOn, tileStepOn}
 use Rattle.tile_steps.proofs.Laws.{not-forward}
 use Rattle.tile_steps.specs.declared.Told.{Told}
-use Rattle.tile_steps.specs.InPlace.{Put, Stepped, Puts, Steps, told, numbered, lined, worded, requested, received, replied, waiting, stored, emptied, writtenBack, answered, loadFilled, storeFilled, storeFill, loadFill, dataAck}
+use Rattle.tile_steps.specs.InPlace.{Put, Stepped, Puts, Steps, numbered, lined, worded, received, waiting, stored, emptied, writtenBack, answered, loadFilled, storeFilled, storeFill, loadFill, dataAck}
 
 -- writing back what was read changes nothing
 pub over-read : (l : List ℕ) (i n : ℕ) → i + n ≤ length l → over l i (take n (drop i l)) ≡ l
@@ -37,7 +36,7 @@ drop-over l i j vs h e =
     let n : length (take i l ++ vs) ≡ j = simp length-append (ap (λ (k : ℕ). k + length vs) (length-take-le i l h) ∙ sym e) in
     ap (drop j) (sym (append-assoc (take i l) vs (drop (i + length vs) l))) ∙ drop-at (take i l ++ vs) (drop (i + length vs) l) j n ∙ ap (λ (k : ℕ). drop k l) (sym e)
 
--- words written at j, with a words before them and n behind them written back as they were read
+-- words written, with what stands behind them, or before them, written back as it was read
 pub kept-behind : (l : List ℕ) (i j n : ℕ) (vs : List ℕ) → j ≡ i + length vs → j + n ≤ length l → over l i vs ≡ over l i (vs ++ take n (drop j l))
 kept-behind l i j n vs e h =
     let m : List ℕ = over l i vs in
@@ -218,7 +217,7 @@ pub kept-words : (l : List ℕ) (i : ℕ) (h r : Row) → h ≡ rowAt l i → r 
 unfolding tileAt
 kept-words l i h r e k = k ∙ ap (λ (y : Row). row 12 0 0 0 (y .words)) e
 
--- refused: nothing written
+-- a step's answers: refused, with nothing written, and accepted
 abbrev pub noTold : ℕ → Told
 noTold n = record { refusal = n; kind = 0; value = 0; sent = 0 }
 

@@ -51,7 +51,7 @@ received x = headed (x .head) (x .noc1) (pop (x .noc2)) (x .noc3)
 abbrev pub replied : Row → TileBlock → TileBlock
 replied m x = headed (x .head) (x .noc1) (x .noc2) (push (x .noc3) m)
 
--- the blocks after the steps that are accepted (Steps.antt has them in place)
+-- the blocks after accepted steps, as these changes make them one after the other
 abbrev pub waiting : ℕ → ℕ → ℕ → ℕ → TileBlock → TileBlock
 waiting k u w v x = requested (row k w 0 0 zeros) (numbered (x .head .n0) u w v x)
 

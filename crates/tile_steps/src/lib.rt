@@ -2,7 +2,7 @@
 // What a tile sends goes onto its own queues.
 ghost use mathlib.Core.Path.{_≡_};
 ghost use Prim.Native.Nat.{_+_, _≤_, _<_};
-ghost use lib.ListN.{length, getD, set};
+ghost use lib.ListN.{length, getD};
 ghost use mathlib.Core.List.{_∷_, []};
 ghost use Rattle.words.specs.Blocks.{over, pairAt, pairWords, PairFull};
 ghost use Rattle.codec.specs.Encode.{zeros, row};
