@@ -12,7 +12,7 @@ use Rattle.protocol.specs.Parts.{Bench, Call, Result, refused, accepted}
 use Rattle.protocol.specs.Bench.{fresh, step, tileAt}
 use Rattle.protocol.specs.Demand3 as rules
 use Rattle.protocol.specs.Demand3.{kept, after, runs, answered, Event, event, history, one-if, isAccepted, isDelivery, isOther, waits, isWaiting, tilesOf, next, Quiet, isMisfit, requestAtFront, takes, takesAnother, Demand3}
-use Rattle.protocol.proofs.Theorem.{demand3}
+use Rattle.coherence.proofs.Theorem.{demand3}
 use Rattle.bench_words.specs.declared.Answer.{Answer}
 use Rattle.bench_words.specs.Calls.{need, stepOn, answerOf, wordsAfter}
 use Rattle.bench.specs.Runs.{startedWords, answerTo, afterCall, callWords, callAnswers, ruleAnswers, said, callHistory, canBeAccepted, acceptedOf, passesOver, passedOver}

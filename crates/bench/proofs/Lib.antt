@@ -1,3 +1,4 @@
 pub mod Started
 pub mod RoundTrip
 pub mod Demand3
+pub mod Order1

@@ -7,7 +7,6 @@ use native.Mathlib.Omega.{arith}
 use lib.Dec.{ltb, leb}
 use lib.ListN.{length, getD}
 use Rattle.bits.specs.Mask.{add64}
-use Rattle.words.specs.declared.HomeBlock.{HomeBlock}
 use Rattle.words.specs.Blocks.{tileAt, homeAt}
 use Rattle.codec.specs.Same.{tileOk, homeOk}
 use Rattle.bench_words.specs.Calls.{need, tilesOk, wellFormed}
@@ -49,7 +48,3 @@ survey-ok l = go (leb 74 (length l)) (ltb 0 (getD l 0 0)) (leb (getD l 0 0) 64) 
     go true true false s = refl
     go true true true false = refl
     go true true true true = refl
-
-pub home-some : (l : List ℕ) (x : HomeBlock) → x ≡ homeAt l → 0 < getD l 0 0 → 0 < x .tiles
-unfolding homeAt
-home-some l x e h = rw e h

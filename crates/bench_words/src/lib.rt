@@ -5,8 +5,6 @@ ghost use lib.Dec.{eqb};
 ghost use Rattle.bits.specs.Mask.{add64};
 ghost use Prim.Native.Nat.{_+_, _*_, _≤_, _<_};
 ghost use lib.ListN.{length, getD};
-ghost use Rattle.words.specs.Blocks.{tileAt};
-ghost use Rattle.codec.specs.Same.{tileOk};
 ghost use Rattle.bench_words.specs.Calls.{need, tilesOk, wellFormed, refusal};
 ghost use Rattle.bench_words.specs.Survey.{canTake, readyFrom, noBench, surveyOf};
 
@@ -60,13 +58,6 @@ pub fn accepted(k: u64, v: u64, s: u64, t: u64) -> Answer
     }
 }
 
-fn one_tile_ok(w: &[u64], at: usize) -> bool
-    requires { ⌜ at + 84 ≤ length (now w) ⌝ }
-    ensures { λ r. ⌜ r ≡ tileOk (tileAt (now (w .entry)) at) ⌝ }
-{
-    codec::tile_ok(words::read_tile(w, at))
-}
-
 fn can_take(w: &[u64], k: u64, i: u64) -> bool
     requires { ⌜ (need (i + 1) ≤ length (now w)) × (i < 64) ⌝ }
     ensures { λ r. ⌜ r ≡ canTake (now (w .entry)) k i ⌝ }
@@ -105,7 +96,7 @@ fn tiles(w: &[u64], n: u64, k: u64) -> Survey
     let mut at: usize = 74;
     let mut i: u64 = 0;
     while i < n {
-        ok = ok & one_tile_ok(w, at);
+        ok = ok & block_tests::tile_ok_at(w, at);
         ready = noted(w, k, ready, i);
         at = at + 84;
         i = i + 1;
@@ -123,10 +114,8 @@ pub fn survey_of(w: &[u64]) -> Survey
             if n <= 64 {
                 let enough = 74 + 84 * (n as usize);
                 if enough <= w.len() {
-                    let x = words::read_home(w);
-                    let c = x.control;
-                    let s = tiles(w, n, c.n1);
-                    let home = codec::home_ok(x);
+                    let s = tiles(w, n, w[15]);
+                    let home = block_tests::home_ok_at(w);
                     surveyed(home & s.ok, s.ready)
                 } else {
                     surveyed(false, 0)

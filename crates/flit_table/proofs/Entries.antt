@@ -1,4 +1,4 @@
--- The const table by type number is 01's lines: one equation that antt computes over all 32 entries. Assumes nothing.
+-- The table by type number is 01's lines: one equation that antt computes over all 32 numbers, and one law that makes of it the rule at each entry. Assumes nothing.
 use mathlib.Core.Path.{_≡_, refl, sym, ap, _∙_}
 use mathlib.Core.Bool.{Bool, true, false, _&&_}
 use mathlib.Core.List.{List, [], _∷_}
@@ -11,9 +11,10 @@ use borrow.Author.Tests.{ne-eqb}
 use Rattle.flit_table.specs.declared.Row.{Row}
 use Rattle.flit_table.proofs.Tests.{and-left, and-right}
 use Rattle.flit_table.specs.Table.{Line, lines, member, find, rowOf, absent}
+use Rattle.flit_table.specs.Columns.{rowAt}
 
 -- f at i, i + 1, .. for n numbers
-abbrev pub from : (ℕ → Row) → ℕ → ℕ → List Row
+abbrev from : (ℕ → Row) → ℕ → ℕ → List Row
 from f i zero = []
 from f i (suc n) = f i ∷ from f (suc i) n
 
@@ -22,9 +23,63 @@ getD-from f zero i k d h = absurd (not-suc-le-zero h)
 getD-from f (suc n) i zero d h = ap f (sym (add-zero i))
 getD-from f (suc n) i (suc k) d h = getD-from f n (suc i) k d (le-of-suc-le-suc h) ∙ ap f (suc-add i k ∙ sym (add-suc i k))
 
--- a table that is the rows of 0 .. 31 has at k the row of k
-pub entry : (table : List Row) → from rowOf 0 32 ≡ table → (k : ℕ) (d : Row) → k < 32 → getD table k d ≡ rowOf k
-entry table e k d h = ap (λ (t : List Row). getD t k d) (sym e) ∙ getD-from rowOf 32 0 k d h ∙ ap rowOf (zero-add k)
+-- two functions that agree on a list of numbers agree on each
+at : (f g : ℕ → Row) (n : ℕ) → from f 0 n ≡ from g 0 n → (k : ℕ) → k < n → f k ≡ g k
+at f g n e k h =
+    ap f (sym (zero-add k))
+    ∙ sym (getD-from f n 0 k absent h)
+    ∙ ap (λ (rows : List Row). getD rows k absent) e
+    ∙ getD-from g n 0 k absent h
+    ∙ ap g (zero-add k)
+
+-- the entries of 0 to 31, as the code has them
+abbrev pub table : List ℕ
+table =
+    0
+    ∷ 0
+    ∷ 0x1122070000000000
+    ∷ 0
+    ∷ 0
+    ∷ 0
+    ∷ 0
+    ∷ 0
+    ∷ 0
+    ∷ 0
+    ∷ 0
+    ∷ 0
+    ∷ 0x31aa770010000000
+    ∷ 0x1122000010000000
+    ∷ 0
+    ∷ 0
+    ∷ 0x212200f010000000
+    ∷ 0x212200f010000000
+    ∷ 0x212200f010000000
+    ∷ 0x2122770010000000
+    ∷ 0x21aa770010000000
+    ∷ 0x3008000001011001
+    ∷ 0x3008000001000001
+    ∷ 0x3000000001000001
+    ∷ 0x3088000000000000
+    ∷ 0x3000000000000000
+    ∷ 0
+    ∷ 0
+    ∷ 0x2000000001003130
+    ∷ 0x2088000001113130
+    ∷ 0
+    ∷ 0x1122070100000000
+    ∷ []
+
+unfoldable rowIn : ℕ → Row
+rowIn k = rowAt (getD table k 0)
+
+all-entries : from rowIn 0 32 ≡ from rowOf 0 32
+unfolding rowOf rowAt rowIn
+all-entries = refl
+
+-- a type t with the number k has the row that the entry at k says
+pub entry : (k t : ℕ) → T (ltb k 32) → t ≡ k → rowAt (getD table k 0) ≡ rowOf t
+unfolding rowIn
+entry k t b e = at rowIn rowOf 32 all-entries k (ltb→lt k 32 b) ∙ ap rowOf (sym e)
 
 -- no type from 32 on is in the table: a test over its types
 small : List ℕ → Bool

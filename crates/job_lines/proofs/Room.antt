@@ -10,7 +10,7 @@ use lib.ListN.{length, length-append}
 use Rattle.lists.specs.Over.{bufferAfter, placeAfter, Placed, Put}
 use Rattle.lists.proofs.OverLaws.{placed-length}
 use Rattle.protocol.specs.Home.{members}
-use Rattle.protocol.proofs.Falls.{members-length}
+use Rattle.coherence.proofs.Falls.{members-length}
 use Rattle.bench_words.specs.declared.Answer.{Answer}
 use Rattle.sent.specs.declared.Place.{Place}
 use Rattle.sent.specs.Places.{place, each, both, placesOf}
@@ -26,7 +26,7 @@ use Rattle.job_lines.specs.Whole.{bytesOf, Room-statement}
 use Rattle.job_lines.proofs.Pieces.{fits, flits-length}
 use Rattle.job_lines.proofs.Whole.{fitted}
 
-decimal-le : (f n : ℕ) → length (decimalFrom f n) ≤ f
+pub decimal-le : (f n : ℕ) → length (decimalFrom f n) ≤ f
 unfolding decimalFrom
 decimal-le zero n = omega arith
 decimal-le (suc f) n = go (ltb n 10) (decimal-le f (n / 10))
@@ -76,7 +76,7 @@ places-le s m =
     (places-if (leb s 3) _ _ (omega (arith, each-length s (members m 64), members-length m 64))
     (places-if (leb s 5) _ _ (omega arith) (places-if (eqb s 6) _ _ (both-le (members m 64)) (omega arith))))
 
-answer-le : (line n : ℕ) (a : Answer) (l : List ℕ) → length (bytesOf (answerLines line n a l)) ≤ 12180
+pub answer-le : (line n : ℕ) (a : Answer) (l : List ℕ) → length (bytesOf (answerLines line n a l)) ≤ 12180
 unfolding answerLines bytesOf
 answer-le line n a l =
     omega (arith, length-append (callLine n (a .refusal) (a .kind) (a .value)) (bytesOf (sentLines line l (placesOf (a .sent) (a .tiles)))), call-le n (a .refusal) (a .kind) (a .value), lines-le line l (placesOf (a .sent) (a .tiles)), places-le (a .sent) (a .tiles))

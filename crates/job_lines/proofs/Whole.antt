@@ -35,7 +35,7 @@ walked (suc f) job line n at l = go (ltb at (length job)) refl (walked f job lin
     go true e ih = let h : at < length job = ltb-true at (length job) e in rw (call-in job at h, next-in job at h) (ap (λ (x : List (List ℕ)). callLines line (n + 1) (benchCall (callAt job at)) l ++ x) ih)
     go false e ih = refl
 
-started : (n : ℕ) (mem l : List ℕ) → 1 ≤ n → n ≤ 64 → need n ≤ length l → wordsStarted l n (startOn l n mem) ≡ startedWords n mem l
+pub started : (n : ℕ) (mem l : List ℕ) → 1 ≤ n → n ≤ 64 → need n ≤ length l → wordsStarted l n (startOn l n mem) ≡ startedWords n mem l
 unfolding startOn wordsStarted startedWords
 started n mem l a b h = rw (lt-ltb 0 n (omega arith), le-leb n 64 b, le-leb (need n) (length l) h)
 

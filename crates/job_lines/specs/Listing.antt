@@ -18,7 +18,7 @@ use Rattle.job_format.specs.Job.{tilesOf, addressOf, memoryOf, callsOf}
 use Rattle.jobs.specs.Run.{benchCall}
 
 -- the flits of a message that was sent, of the line with this address; none where the flit crate refuses it, which it does for no
--- message in range (message_flits, reads-back)
+-- message of an accepted job (specs/Rules)
 unfoldable pub sentFlits : ℕ → Sent → List ℕ
 sentFlits line m =
     cond (eqb (writeRefusal (fieldsOf line (m .queue) (m .tile) (m .row)) (length (wordsOf (m .row))) 11 0) 0)

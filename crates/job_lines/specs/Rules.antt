@@ -1,21 +1,28 @@
 -- The listing of a job by 01's rules alone: its calls as steps of a fresh bench, each with the messages that the step sends.
-use Prim.Native.Nat.{ℕ, _+_}
+use Prim.Native.Nat.{ℕ, _+_, _<_}
 use mathlib.Core.Path.{_≡_}
 use mathlib.Core.List.{List, [], _∷_, _++_, map}
+use lib.ListN.{getD}
 use Rattle.protocol.specs.Parts.{Message, Bench, Call, Result, refused, accepted}
 use Rattle.protocol.specs.Bench.{fresh, step}
 use Rattle.protocol.specs.Demand3.{after}
 use Rattle.messages.specs.Rows.{sentOf}
-use Rattle.listing.specs.Lines.{benchLine, callLine, endLine}
+use Rattle.message_flits.specs.Fields.{fieldsOf, wordsOf}
+use Rattle.flit_writing.specs.Writing.{flitsOf}
+use Rattle.listing.specs.Lines.{benchLine, callLine, messageLine, endLine}
 use Rattle.job_format.specs.Job as job
 use Rattle.job_format.specs.Job.{checkJob, tilesOf, addressOf, memoryOf, callsOf}
 use Rattle.jobs.specs.Run.{benchCall}
-use Rattle.job_lines.specs.Listing.{sentLine, listingOf}
+use Rattle.job_lines.specs.Listing.{listingOf}
+
+-- the flits of a message of the line with this address (01, 'Flits of a bench')
+unfoldable pub messageFlits : ℕ → Message → List ℕ
+messageFlits line m = flitsOf (fieldsOf line (sentOf m .queue) (sentOf m .tile) (sentOf m .row)) (wordsOf (sentOf m .row))
 
 -- one line for each message, in the order of sending
 unfoldable pub messageLines : ℕ → List Message → List (List ℕ)
 messageLines line [] = []
-messageLines line (m ∷ ms) = sentLine line (sentOf m) ∷ messageLines line ms
+messageLines line (m ∷ ms) = messageLine (messageFlits line m) ∷ messageLines line ms
 
 -- call number n: a refusal has kind and value 0 and sends nothing
 unfoldable pub resultLines : ℕ → ℕ → Result Bench → List (List ℕ)
@@ -30,6 +37,11 @@ stepLines line n (c ∷ cs) b = resultLines line (n + 1) (step c b) ++ stepLines
 unfoldable pub ruleListing : List ℕ → List (List ℕ)
 ruleListing job = benchLine (tilesOf job) (addressOf job) ∷ stepLines (addressOf job) 0 (map benchCall (callsOf job)) (fresh (tilesOf job) (memoryOf job))
 
--- Of an accepted job, whatever the lent words held: the listing on words is that of the rules.
+-- a list of bytes
+abbrev pub Bytes : List ℕ → Type 0
+Bytes job = (i : ℕ) → getD job i 0 < 256
+
+-- Of an accepted job, whatever the lent words held: the listing on words is that of the rules. So the flit crate refuses no message that
+-- a job's calls send.
 abbrev pub Rules-statement : Type 0
-Rules-statement = (bytes l : List ℕ) → checkJob bytes ≡ job.accepted → listingOf bytes l ≡ ruleListing bytes
+Rules-statement = (bytes l : List ℕ) → Bytes bytes → checkJob bytes ≡ job.accepted → listingOf bytes l ≡ ruleListing bytes

@@ -1,23 +1,7 @@
--- Demand 3 over the rules. Tests and searches decided:
+-- Tests and searches decided.
 pub mod Tests
 pub mod Search
--- What needs no invariant:
-pub mod Weight
-pub mod Sent
-pub mod Effect
-pub mod Waiting
-pub mod Fair
-pub mod Falls
-pub mod Bounded
+-- Computed: 01's beats, and what else shows a wrong rule.
 pub mod Beats
--- The invariant:
-pub mod Invariant
-pub mod TileSteps
-pub mod ViewSteps
-pub mod Moves
-pub mod Calls
-pub mod Bound
-pub mod Quiet
--- All together:
-pub mod Theorem
 pub mod Examples
+pub mod LastWords

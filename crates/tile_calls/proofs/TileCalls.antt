@@ -24,6 +24,9 @@ use Rattle.codec.specs.Decode.{decWaiting, decTile, decoded, benchFrom, decTile
 use Rattle.codec.specs.Sent.{sentOn, sentTo}
 use Rattle.codec.proofs.Canonical.{home-canonical}
 use Rattle.tile_steps.specs.declared.TileStep.{TileStep}
+use Rattle.tile_steps.specs.declared.Told.{Told}
+use Rattle.tile_steps.specs.InPlace.{Stepped, told}
+use Rattle.tile_steps.proofs.InPlace.{put-same}
 use Rattle.tile_steps.specs.Steps.{refuse, done, loadOn, storeOn, evictOn, deliverOn, tileStepOn}
 use Rattle.tile_steps.proofs.Rules.{ownOne, ownTo, ownAll, encAfter, encStep, load-rule, store-rule, evict-rule, deliver-rule}
 use Rattle.bench_words.specs.declared.Answer.{Answer}
@@ -243,6 +246,25 @@ module _ (l : List ℕ) (c t w v : ℕ) (h : wellFormed l ≡ true) where
     pub tile-refused : (s .refusal ≡ 0 → ⊥) → Meets l (stepOn l (tileCall c t w v)) (refusal (s .refusal)) l
     tile-refused wrong = rw settled (refused-by (ruleOf c t w v x) (rule-local c t w v x) step-numbers wrong)
 
+    kept-by : (r : Result Tile) → s ≡ encStep (encTile x) r → (s .refusal ≡ 0 → ⊥) → s .tile ≡ encTile x
+    unfolding encStep encAfter
+    kept-by (refused n) e wrong = ap (λ (z : TileStep). z .tile) e
+    kept-by (accepted k u y ms) e wrong = go (ownAll ms (some y)) e
+      where
+        go : (o : Option Tile) → s ≡ encAfter k u (sentOn ms) (encTile x) o → s .tile ≡ encTile x
+        go none e = ap (λ (z : TileStep). z .tile) e
+        go (some z) e = absurd (wrong (ap (λ (z : TileStep). z .refusal) e))
+
+    -- a step that is refused in place wrote nothing
+    pub refused-in-place : (q : Told) (m : List ℕ) → Stepped l (74 + 84 * t) s q m → (q .refusal ≡ 0 → ⊥) → Meets l (stepOn l (tileCall c t w v)) (refusal (q .refusal)) m
+    refused-in-place q m p wrong =
+        let i : ℕ = 74 + 84 * t in
+        let fits : i + 84 ≤ length l = omega (arith, found l h .enough) in
+        let e : q .refusal ≡ s .refusal = ap (λ (z : Told). z .refusal) (p .answer) in
+        let no-step : s .refusal ≡ 0 → ⊥ = λ z. wrong (e ∙ z) in
+        let same : m ≡ l = p .put .words ∙ ap (λ (y : TileBlock). over l i (tileWords y)) (kept-by (ruleOf c t w v x) step-numbers no-step ∙ sym block) ∙ sym (put-same l l i fits .words) in
+        subst (λ (k : ℕ). Meets l (stepOn l (tileCall c t w v)) (refusal k) m) (sym e) (subst (Meets l (stepOn l (tileCall c t w v)) (refusal (s .refusal))) (sym same) (tile-refused no-step))
+
     abbrev given : Answer
     given = record { refusal = 0; kind = s .kind; value = s .value; sent = s .sent; tiles = cond (eqb (s .sent) 0) 0 (add64 0 t) }
 
@@ -269,3 +291,10 @@ module _ (l : List ℕ) (c t w v : ℕ) (h : wellFormed l ≡ true) where
 
       pub tile-done : s .refusal ≡ 0 → Meets l (stepOn l (tileCall c t w v)) given m
       tile-done zero = rw settled (done-by (ruleOf c t w v x) (rule-local c t w v x) step-numbers zero)
+
+    pub done-in-place : (q : Told) (m : List ℕ) → Stepped l (74 + 84 * t) s q m → q .refusal ≡ 0 →
+        Meets l (stepOn l (tileCall c t w v)) (record { refusal = 0; kind = q .kind; value = q .value; sent = q .sent; tiles = cond (eqb (q .sent) 0) 0 (add64 0 t) }) m
+    done-in-place q m p zero =
+        let e : q .refusal ≡ s .refusal = ap (λ (z : Told). z .refusal) (p .answer) in
+        subst (λ (z : Told). Meets l (stepOn l (tileCall c t w v)) (record { refusal = 0; kind = z .kind; value = z .value; sent = z .sent; tiles = cond (eqb (z .sent) 0) 0 (add64 0 t) }) m)
+        (sym (p .answer)) (tile-done m (p .put .full) (p .put .words) (sym e ∙ zero))

@@ -14,10 +14,8 @@ fn at_tile(w: &mut [u64], c: u64, t: u64, word: u64, value: u64) -> Answer
         let n = w[0];
         if t < n {
             let at = 74 + 84 * (t as usize);
-            let x = words::read_tile(w, at);
-            let s = tile_steps::step_on(c, word, value, x);
+            let s = tile_steps::step_at(w, at, c, word, value);
             if s.refusal == 0 {
-                words::write_tile(w, at, s.tile);
                 bench_words::accepted(s.kind, s.value, s.sent, t)
             } else {
                 bench_words::refused(s.refusal)

@@ -4,6 +4,7 @@ use crate::bench::*;
 use crate::flits::*;
 use crate::random::Random;
 use crate::steps::Call;
+use crate::words::PHASES;
 
 pub const DATA: [u64; 8] = [11, 12, 13, 14, 15, 16, 17, 18];
 
@@ -110,22 +111,7 @@ fn any_mask(r: &mut Random, tiles: u64) -> u64 {
 }
 
 fn any_home(r: &mut Random, tiles: u64) -> Home {
-    let (phase, reason) = pick(
-        r,
-        &[
-            (IDLE, NO_REASON),
-            (IDLE, NO_REASON),
-            (IDLE, NO_REASON),
-            (FOR_MEMORY_LOAD, FOR_LOAD),
-            (FOR_MEMORY_LOAD, FOR_STORE),
-            (FOR_OWNER, FOR_LOAD),
-            (FOR_OWNER, FOR_STORE),
-            (FOR_OWNER, FOR_EVICTION),
-            (FOR_INVALIDATIONS, FOR_STORE),
-            (FOR_INVALIDATIONS, FOR_EVICTION),
-            (FOR_MEMORY_STORE, FOR_EVICTION),
-        ],
-    );
+    let (phase, reason) = if r.below(4) == 0 { (IDLE, NO_REASON) } else { pick(r, &PHASES) };
     let directory = match phase {
         FOR_OWNER => E,
         FOR_INVALIDATIONS => S,

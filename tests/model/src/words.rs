@@ -21,7 +21,7 @@ pub fn tile_place(tile: u64) -> usize {
 }
 
 /// 'The home is .. on behalf of', by phase number.
-const PHASES: [(u64, u64); 9] = [
+pub const PHASES: [(u64, u64); 9] = [
     (IDLE, NO_REASON),
     (FOR_MEMORY_LOAD, FOR_LOAD),
     (FOR_MEMORY_LOAD, FOR_STORE),

@@ -1,4 +1,4 @@
-//! The data of tests/jobs and the cases of crates/bench_vectors are what the model makes of them today.
+//! The jobs of crates/job_set and the cases of crates/bench_vectors are what the model makes of them today.
 
 use model::{job, text};
 use std::fs;
@@ -6,34 +6,32 @@ use std::path::Path;
 use std::process::Command;
 
 #[test]
-fn data_are_up_to_date() {
-    let dir = Path::new(env!("CARGO_MANIFEST_DIR")).join("../jobs");
-    let (mut jobs, mut texts) = (0, 0);
-    for entry in fs::read_dir(&dir).unwrap() {
+fn jobs_are_up_to_date() {
+    let set = Path::new(env!("CARGO_MANIFEST_DIR")).join("../../crates/job_set");
+    let names = fs::read_to_string(set.join("args")).unwrap();
+    let job = |name: &str| fs::read(set.join("data").join(name)).unwrap();
+    let whole = job(names.lines().next().unwrap());
+    let mut expected = String::new();
+    for n in 0..whole.len() {
+        expected += &format!("== cut {n}\n{}", job::run(&whole[..n]));
+    }
+    for name in names.lines() {
+        expected += &format!("== {name}\n{}", job::run(&job(name)));
+    }
+    assert!(expected == fs::read_to_string(set.join("stdout")).unwrap());
+    assert_eq!(names.lines().count(), fs::read_dir(set.join("data")).unwrap().count());
+    let mut texts = 0;
+    for entry in fs::read_dir(Path::new(env!("CARGO_MANIFEST_DIR")).join("../jobs")).unwrap() {
         let path = entry.unwrap().path();
-        match path.extension().and_then(|e| e.to_str()) {
-            Some("job") => {
-                jobs += 1;
-                let printed = job::run(&fs::read(&path).unwrap());
-                assert_eq!(printed, fs::read_to_string(path.with_extension("out")).unwrap(), "{path:?}");
-            }
-            Some("txt") => {
-                texts += 1;
-                let bytes = fs::read(path.with_extension("job")).unwrap();
-                assert_eq!(text::to_job(&fs::read(&path).unwrap()).as_ref(), Ok(&bytes), "{path:?}");
-                let again = text::from_job(&bytes).unwrap();
-                assert_eq!(text::to_job(again.as_bytes()), Ok(bytes));
-            }
-            _ => {}
+        if path.extension().is_some_and(|e| e == "txt") {
+            texts += 1;
+            let bytes = job(&format!("{}.job", path.file_stem().unwrap().to_str().unwrap()));
+            assert_eq!(text::to_job(&fs::read(&path).unwrap()).as_ref(), Ok(&bytes), "{path:?}");
+            let again = text::from_job(&bytes).unwrap();
+            assert_eq!(text::to_job(again.as_bytes()), Ok(bytes));
         }
     }
-    assert!(jobs > 40 && texts >= 5);
-    let whole = fs::read(dir.join("cuts.whole")).unwrap();
-    let expected = fs::read_to_string(dir.join("cuts.expected")).unwrap();
-    assert_eq!(expected.lines().count(), whole.len());
-    for (n, line) in expected.lines().enumerate() {
-        assert_eq!(job::run(&whole[..n]).lines().next(), Some(line));
-    }
+    assert!(names.lines().count() > 40 && texts >= 5);
 }
 
 #[test]

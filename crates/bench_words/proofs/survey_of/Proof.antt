@@ -1,31 +1,29 @@
-use Rattle.bench_words.proofs.Guard.{home-some}
 use borrow.Author.Tests.{lt-ltb, le-ltb, le-leb, lt-leb}
 use Rattle.bench_words.specs.Survey.{surveyOf}
+use Rattle.words.specs.Blocks.{homeAt}
+use Rattle.words.specs.Blocks.{rowAt}
 use borrow.Author.Needs.{needs}
 use Rattle.bench_words.proofs.survey_of.Statement.{statement}
 use Rattle.bench_words.proofs.survey_of.Tie as tie
 
-home-ok-requires : tie.Need-home-ok-requires
-home-ok-requires c κs = home-some _ _ (c .before .before .read-home .ensures) (c .before .before .before .before .before .if2 .taken)
-
 returns : tie.Need-returns
-unfolding surveyOf
-returns c = simp (c .surveyed .ensures, c .before .before .home-ok .ensures, c .before .before .before .tiles .ensures, c .before .before .before .before .before .read-home .ensures, le-leb _ _ (c .before .before .before .before .before .before .if4 .taken), le-leb _ _ (c .before .before .before .before .before .before .before .if3 .taken), lt-ltb _ _ (c .before .before .before .before .before .before .before .before .if2 .taken), le-leb _ _ (c .before .before .before .before .before .before .before .before .before .before .if1 .taken))
+unfolding surveyOf homeAt rowAt
+returns c = simp (c .surveyed .ensures, c .before .before .home-ok-at .ensures, c .before .before .before .tiles .ensures, le-leb _ _ (c .before .before .before .before .before .if4 .taken), le-leb _ _ (c .before .before .before .before .before .before .if3 .taken), lt-ltb _ _ (c .before .before .before .before .before .before .before .if2 .taken), le-leb _ _ (c .before .before .before .before .before .before .before .before .before .if1 .taken))
 
 returns-2 : tie.Need-returns-2
-unfolding surveyOf
+unfolding surveyOf homeAt rowAt
 returns-2 c = simp (c .surveyed2 .ensures, lt-leb _ _ (c .before .if4 .left), le-leb _ _ (c .before .before .if3 .taken), lt-ltb _ _ (c .before .before .before .if2 .taken), le-leb _ _ (c .before .before .before .before .before .if1 .taken))
 
 returns-3 : tie.Need-returns-3
-unfolding surveyOf
+unfolding surveyOf homeAt rowAt
 returns-3 c = simp (c .surveyed3 .ensures, lt-leb _ _ (c .before .if3 .left), lt-ltb _ _ (c .before .before .if2 .taken), le-leb _ _ (c .before .before .before .before .if1 .taken))
 
 returns-4 : tie.Need-returns-4
-unfolding surveyOf
+unfolding surveyOf homeAt rowAt
 returns-4 c = simp (c .surveyed4 .ensures, le-ltb _ _ (c .before .if2 .left), le-leb _ _ (c .before .before .before .if1 .taken))
 
 returns-5 : tie.Need-returns-5
-unfolding surveyOf
+unfolding surveyOf homeAt rowAt
 returns-5 c = simp (c .surveyed5 .ensures, lt-leb _ _ (c .before .if1 .left))
 
 pub survey-of-spec : {M : Type 1} → statement M
@@ -35,9 +33,9 @@ survey-of-spec =
     (λ c. search needs)
     (λ c. search needs)
     (λ c. search needs)
+    (λ c. search needs)
     (λ c κs. search needs)
     (λ c κs. search needs)
-    home-ok-requires
     (λ c κs. search needs)
     (λ c κs. search needs)
     (λ c κs. search needs)

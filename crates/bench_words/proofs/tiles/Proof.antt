@@ -20,8 +20,8 @@ loop-holds c =
     let e : c .before .args .n - 0 ≡ c .before .args .n = omega arith in
     (ap (tilesOk true (c .before .args .w .now) 74) e, ap (readyFrom 0 (c .before .args .w .now) (c .before .args .k) 0) e, refl, omega arith)
 
-one-tile-ok-requires : tie.Need-one-tile-ok-requires Inv-loop μ-loop
-one-tile-ok-requires c κs = omega arith
+tile-ok-at-requires : tie.Need-tile-ok-at-requires Inv-loop μ-loop
+tile-ok-at-requires c κs = omega arith
 
 noted-requires : tie.Need-noted-requires Inv-loop μ-loop
 noted-requires c κs = (omega arith, omega arith)
@@ -41,7 +41,7 @@ loop-again c =
     let n = c .before .before .before .before .before .args .n in
     let k = c .before .before .before .before .before .args .k in
     let i = c .before .before .before .loop .i in (
-      ap (λ (b : Bool). tilesOk (c .before .before .before .loop .ok && b) l (c .before .before .before .loop .at + 84) (n - (i + 1))) (c .before .one-tile-ok .ensures)
+      ap (λ (b : Bool). tilesOk (c .before .before .before .loop .ok && b) l (c .before .before .before .loop .at + 84) (n - (i + 1))) (c .before .tile-ok-at .ensures)
           ∙ sym (tiles-turn (c .before .before .before .loop .ok) l (c .before .before .before .loop .at) i n (c .before .before .loop-test .taken))
           ∙ c .before .before .before .loop .inv .0,
       ap (λ (a : ℕ). readyFrom a l k (i + 1) (n - (i + 1))) (c .noted .ensures) ∙ sym (ready-turn (c .before .before .before .loop .ready) l k i n (c .before .before .loop-test .taken)) ∙ c .before .before .before .loop .inv .1,
@@ -64,7 +64,7 @@ tiles-spec =
     Inv-loop
     μ-loop
     loop-holds
-    one-tile-ok-requires
+    tile-ok-at-requires
     noted-requires
     add-at
     add-i

@@ -1,12 +1,11 @@
 use Prim.Native.Nat.{_<_}
-use mathlib.Core.Path.{refl, ap, sym, subst, _∙_}
-use Rattle.words.specs.declared.TileBlock.{TileBlock}
+use mathlib.Core.Path.{refl, sym, _∙_}
 use native.Mathlib.Omega.{arith}
-use Rattle.tile_steps.specs.Steps.{tileStepOn}
+use Rattle.words.specs.Blocks.{tileAt, rowAt}
 use Rattle.bench_words.specs.Calls.{tileCall}
 use Rattle.bench_words.proofs.Decoded.{found}
 use Rattle.bench_words.proofs.Meets.{malformed}
-use Rattle.tile_calls.proofs.TileCalls.{no-tile, tile-refused, tile-done, word-below}
+use Rattle.tile_calls.proofs.TileCalls.{no-tile, refused-in-place, done-in-place, word-below}
 use borrow.Author.Needs.{needs}
 use Rattle.tile_calls.proofs.at_tile.Statement.{statement}
 use Rattle.tile_calls.proofs.at_tile.Tie as tie
@@ -20,23 +19,18 @@ mul-at c = omega (arith, found _ (sym (c .before .before .before .well-formed .e
 add-at : tie.Need-add-at
 add-at c = omega (arith, found _ (sym (c .before .before .before .well-formed .ensures) ∙ c .before .before .if1 .taken) .most)
 
-read-tile-requires : tie.Need-read-tile-requires
-read-tile-requires c κs = omega (arith, found _ (sym (c .before .before .before .before .well-formed .ensures) ∙ c .before .before .before .if1 .taken) .enough)
-
-step-on-requires : tie.Need-step-on-requires
-step-on-requires c κs = subst (λ (x : TileBlock). x .head .n2 < 8) (sym (c .read-tile .ensures)) (word-below (c .before .before .before .before .before .before .before .before .args .w .now) (c .before .before .before .before .before .before .before .before .args .c) (c .before .before .before .before .before .before .before .before .args .t) (c .before .before .before .before .before .before .before .before .args .word) (c .before .before .before .before .before .before .before .before .args .value) (sym (c .before .before .before .before .before .well-formed .ensures) ∙ c .before .before .before .before .if1 .taken) (c .before .before .if2 .taken) _ refl)
-
-write-tile-requires : tie.Need-write-tile-requires
-write-tile-requires c κs = omega (arith, found _ (sym (c .before .before .before .before .before .before .before .before .before .well-formed .ensures) ∙ c .before .before .before .before .before .before .before .before .if1 .taken) .enough)
+step-at-requires : tie.Need-step-at-requires
+unfolding tileAt rowAt
+step-at-requires c κs = (omega (arith, found _ (sym (c .before .before .before .before .well-formed .ensures) ∙ c .before .before .before .if1 .taken) .enough), word-below (c .before .before .before .before .before .before .before .args .w .now) (c .before .before .before .before .before .before .before .args .c) (c .before .before .before .before .before .before .before .args .t) (c .before .before .before .before .before .before .before .args .word) (c .before .before .before .before .before .before .before .args .value) (sym (c .before .before .before .before .well-formed .ensures) ∙ c .before .before .before .if1 .taken) (c .before .if2 .taken) _ refl)
 
 returns : tie.Need-returns
 returns c =
-    let m = tile-done (c .before .before .before .before .before .before .before .before .before .before .before .before .before .before .before .before .args .w .now) (c .before .before .before .before .before .before .before .before .before .before .before .before .before .before .before .before .args .c) (c .before .before .before .before .before .before .before .before .before .before .before .before .before .before .before .before .args .t) (c .before .before .before .before .before .before .before .before .before .before .before .before .before .before .before .before .args .word) (c .before .before .before .before .before .before .before .before .before .before .before .before .before .before .before .before .args .value) (sym (c .before .before .before .before .before .before .before .before .before .before .before .before .before .well-formed .ensures) ∙ c .before .before .before .before .before .before .before .before .before .before .before .before .if1 .taken) (c .before .before .before .before .before .before .before .before .before .before .if2 .taken) (c .before .before .before .before .before .before .before .step-on .result) (c .before .before .before .before .before .before .before .step-on .ensures ∙ ap (tileStepOn _ _ _) (c .before .before .before .before .before .before .before .before .read-tile .ensures)) _ (c .before .before .before .write-tile .ensures .1) (c .before .before .before .write-tile .ensures .0) (c .before .before .before .before .before .if3 .taken) in
+    let m = done-in-place (c .before .before .before .before .before .before .before .before .before .before .before .before .before .args .w .now) (c .before .before .before .before .before .before .before .before .before .before .before .before .before .args .c) (c .before .before .before .before .before .before .before .before .before .before .before .before .before .args .t) (c .before .before .before .before .before .before .before .before .before .before .before .before .before .args .word) (c .before .before .before .before .before .before .before .before .before .before .before .before .before .args .value) (sym (c .before .before .before .before .before .before .before .before .before .before .well-formed .ensures) ∙ c .before .before .before .before .before .before .before .before .before .if1 .taken) (c .before .before .before .before .before .before .before .if2 .taken) _ refl _ _ (c .before .before .before .before .before .step-at .ensures) (c .before .if3 .taken) in
     (c .accepted .ensures ∙ m .answer, m .words)
 
 returns-2 : tie.Need-returns-2
 returns-2 c =
-    let m = tile-refused (c .before .before .before .before .before .before .before .before .before .before .before .before .args .w .now) (c .before .before .before .before .before .before .before .before .before .before .before .before .args .c) (c .before .before .before .before .before .before .before .before .before .before .before .before .args .t) (c .before .before .before .before .before .before .before .before .before .before .before .before .args .word) (c .before .before .before .before .before .before .before .before .before .before .before .before .args .value) (sym (c .before .before .before .before .before .before .before .before .before .well-formed .ensures) ∙ c .before .before .before .before .before .before .before .before .if1 .taken) (c .before .before .before .before .before .before .if2 .taken) (c .before .before .before .step-on .result) (c .before .before .before .step-on .ensures ∙ ap (tileStepOn _ _ _) (c .before .before .before .before .read-tile .ensures)) (c .before .if3 .left) in
+    let m = refused-in-place (c .before .before .before .before .before .before .before .before .before .before .before .before .before .args .w .now) (c .before .before .before .before .before .before .before .before .before .before .before .before .before .args .c) (c .before .before .before .before .before .before .before .before .before .before .before .before .before .args .t) (c .before .before .before .before .before .before .before .before .before .before .before .before .before .args .word) (c .before .before .before .before .before .before .before .before .before .before .before .before .before .args .value) (sym (c .before .before .before .before .before .before .before .before .before .before .well-formed .ensures) ∙ c .before .before .before .before .before .before .before .before .before .if1 .taken) (c .before .before .before .before .before .before .before .if2 .taken) _ refl _ _ (c .before .before .before .before .before .step-at .ensures) (c .before .if3 .left) in
     (c .refused .ensures ∙ m .answer, m .words)
 
 returns-3 : tie.Need-returns-3
@@ -57,9 +51,7 @@ at-tile-spec =
     slice-read-n
     mul-at
     add-at
-    read-tile-requires
-    step-on-requires
-    write-tile-requires
+    step-at-requires
     (λ c κs. search needs)
     (λ c κs. search needs)
     (λ c κs. search needs)

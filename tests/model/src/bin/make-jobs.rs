@@ -1,4 +1,4 @@
-//! `make-jobs DIR`: writes the jobs of tests/jobs that no text gives: refused ones, long ones, and made-up runs.
+//! `make-jobs DIR`: writes the jobs of crates/job_set that no text gives: refused ones, long ones, and made-up runs.
 
 use model::bench::*;
 use model::job::{self, Job};
@@ -32,9 +32,7 @@ fn main() {
     for (tiles, calls) in [(1, 60), (2, 120), (8, 160), (64, 200)] {
         save(&format!("random-{tiles}.job"), &made(tiles, random_run(tiles, calls)));
     }
-    let (whole, expected) = cuts();
-    save("cuts.whole", &whole);
-    save("cuts.expected", expected.as_bytes());
+    save("cuts.job", &cuts());
 }
 
 fn memory() -> [u64; 8] {
@@ -287,10 +285,7 @@ fn tour(tiles: u64) -> Vec<Call> {
     }
 }
 
-/// A job of a header and one store, and for each n below its length the first line that its first n bytes print.
-fn cuts() -> (Vec<u8>, String) {
-    let whole = made(2, vec![Call::Store { tile: 1, word: 2, value: 3 }]);
-    let first_line = |n| job::run(&whole[..n]).lines().next().unwrap().to_string() + "\n";
-    let expected = (0..whole.len()).map(first_line).collect();
-    (whole, expected)
+/// A job of a header and one store, of which every cut is tried.
+fn cuts() -> Vec<u8> {
+    made(2, vec![Call::Store { tile: 1, word: 2, value: 3 }])
 }

@@ -1,0 +1,26 @@
+use Rattle.block_tests.proofs.Laws.{and-assoc, zero-left, or-clear}
+use Rattle.block_tests.specs.Parts.{bare, clearBehind}
+use Rattle.words.specs.Blocks.{rowAt}
+use borrow.Author.Needs.{needs}
+use Rattle.block_tests.proofs.bare.Statement.{statement}
+use Rattle.block_tests.proofs.bare.Tie as tie
+
+returns : tie.Need-returns
+unfolding bare clearBehind rowAt
+returns c = simp (c .or8 .ensures, or-clear, zero-left, and-assoc)
+
+pub bare-spec : {M : Type 1} → statement M
+bare-spec =
+    tie.close
+    (tie.spec
+    (λ c. search needs)
+    (λ c. search needs)
+    (λ c. search needs)
+    (λ c. search needs)
+    (λ c. search needs)
+    (λ c. search needs)
+    (λ c. search needs)
+    (λ c. search needs)
+    (λ c. search needs)
+    (λ c κs. search needs)
+    returns)

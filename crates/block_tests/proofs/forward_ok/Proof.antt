@@ -1,0 +1,46 @@
+use Rattle.block_tests.proofs.Laws.{and-true, ne-left, same-self}
+use borrow.Author.Tests.{ne-eqb}
+use Rattle.codec.specs.Same.{sameRow}
+use Rattle.words.specs.Blocks.{rowAt}
+use Rattle.block_tests.specs.Parts.{clearBehind, bare, onlyData}
+use Rattle.codec.specs.Encode.{encForward}
+use Rattle.codec.specs.Decode.{decForward}
+use borrow.Author.Needs.{needs}
+use Rattle.block_tests.proofs.forward_ok.Statement.{statement}
+use Rattle.block_tests.proofs.forward_ok.Tie as tie
+
+returns : tie.Need-returns
+unfolding sameRow rowAt clearBehind bare onlyData encForward decForward
+returns c = simp (c .bare .ensures, c .before .match .keys1)
+
+returns-2 : tie.Need-returns-2
+unfolding sameRow rowAt clearBehind bare onlyData encForward decForward
+returns-2 c = simp (c .bare2 .ensures, c .before .match .keys2)
+
+returns-3 : tie.Need-returns-3
+unfolding sameRow rowAt clearBehind bare onlyData encForward decForward
+returns-3 c = simp (c .bare3 .ensures, c .before .match .keys3)
+
+returns-4 : tie.Need-returns-4
+unfolding sameRow rowAt clearBehind bare onlyData encForward decForward
+returns-4 c = simp (c .grant-ok .ensures, c .before .match .keys4, same-self, and-true)
+
+returns-5 : tie.Need-returns-5
+unfolding sameRow rowAt clearBehind bare onlyData encForward decForward
+returns-5 c = simp (ne-left _ _ (c .match .rest .1), ne-eqb _ _ (c .match .rest .0 .1), ne-eqb _ _ (c .match .rest .0 .0 .1), ne-eqb _ _ (c .match .rest .0 .0 .0 .1), same-self)
+
+pub forward-ok-spec : {M : Type 1} → statement M
+forward-ok-spec =
+    tie.close
+    (tie.spec
+    (λ c. search needs)
+    (λ c. search needs)
+    (λ c κs. search needs)
+    (λ c κs. search needs)
+    (λ c κs. search needs)
+    (λ c κs. search needs)
+    returns
+    returns-2
+    returns-3
+    returns-4
+    returns-5)

@@ -1,0 +1,34 @@
+use Rattle.block_tests.specs.Parts.{queuesOk}
+use mathlib.Core.Path.{_∙_}
+use Rattle.block_tests.proofs.Rows.{queues-none}
+use borrow.Author.Needs.{needs}
+use Rattle.block_tests.proofs.queues_ok.Statement.{statement}
+use Rattle.block_tests.proofs.queues_ok.Tie as tie
+
+returns : tie.Need-returns
+returns c = c .quiet .ensures ∙ queues-none _ _ (c .before .if1 .taken)
+
+returns-2 : tie.Need-returns-2
+unfolding queuesOk
+returns-2 c = simp (c .replies-ok .ensures, c .before .forwards-ok .ensures, c .before .before .requests-ok .ensures)
+
+pub queues-ok-spec : {M : Type 1} → statement M
+queues-ok-spec =
+    tie.close
+    (tie.spec
+    (λ c. search needs)
+    (λ c. search needs)
+    (λ c. search needs)
+    (λ c. search needs)
+    (λ c. search needs)
+    (λ c. search needs)
+    (λ c. search needs)
+    (λ c. search needs)
+    (λ c κs. search needs)
+    (λ c κs. search needs)
+    (λ c. search needs)
+    (λ c κs. search needs)
+    (λ c. search needs)
+    (λ c κs. search needs)
+    returns
+    returns-2)

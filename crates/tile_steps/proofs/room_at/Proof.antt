@@ -1,0 +1,16 @@
+use mathlib.Core.Path.{refl}
+use Rattle.words.specs.Blocks.{pairAt, rowAt}
+use Rattle.tile_steps.specs.Steps.{room}
+use mathlib.Core.Path.{refl}
+use Rattle.words.specs.Blocks.{pairAt, rowAt}
+use Rattle.tile_steps.specs.Steps.{room}
+use borrow.Author.Needs.{needs}
+use Rattle.tile_steps.proofs.room_at.Statement.{statement}
+use Rattle.tile_steps.proofs.room_at.Tie as tie
+
+returns : tie.Need-returns
+unfolding room pairAt rowAt
+returns c = refl
+
+pub room-at-spec : {M : Type 1} → statement M
+room-at-spec = tie.close (tie.spec (λ c. search needs) (λ c. search needs) (λ c. search needs) returns)
