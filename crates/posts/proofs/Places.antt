@@ -79,24 +79,7 @@ module _ (l : List ℕ) (at : ℕ) (h : at + 84 ≤ length l) (q : Pair) (f : Pa
       let apart : rowWords (rowAt l at) ++ (pairWords (pairAt l (at + 12)) ++ (pairWords (pairAt l (at + 36)) ++ pairWords q)) ≡ A ++ (pairWords q ++ []) = simp (append-assoc, append-nil) in
       ap (over l at) apart ∙ over-part l at 60 0 A (pairWords q) [] m refl a refl
 
--- a message put on a queue in place
-pub push-first : (l m k : List ℕ) (i : ℕ) (r z : Row) → z ≡ noRow → i + 24 ≤ length l → getD l i 0 ≡ 0 → length (r .words) ≡ 8 → m ≡ over l i (rowWords r) → k ≡ over m (i + 12) (rowWords z) → k ≡ over l i (pairWords (push (pairAt l i) r))
-unfolding push pairAt rowAt pairWords
-push-first l m k i r z f h n e p q = rw (n, ← f) (then-over l m k i (i + 12) (rowWords r) (rowWords z) (omega arith) (ap (λ (x : ℕ). i + x) (sym (length-row r e))) p q)
-
-pub push-second : (l m : List ℕ) (i : ℕ) (r : Row) → i + 24 ≤ length l → (getD l i 0 ≡ 0 → ⊥) → m ≡ over l (i + 12) (rowWords r) → m ≡ over l i (pairWords (push (pairAt l i) r))
-unfolding push pairAt rowAt pairWords
-push-second l m i r h z p =
-    let e : eqb (rowAt l i .n0) 0 ≡ false = ne-eqb _ 0 z in
-    rw e (p ∙ sym (ap (λ (z : List ℕ). over l i (rowWords (rowAt l i) ++ z)) (sym (append-nil (rowWords r))) ∙ over-part l i 12 0 (rowWords (rowAt l i)) (rowWords r) [] (length-row _ (row-full l i (omega arith))) refl (row-words l i (omega arith)) refl))
-
--- its front taken off in place
-pub pop-over : (l m k : List ℕ) (i : ℕ) (r z : Row) → r ≡ rowAt l (i + 12) → z ≡ noRow → i + 24 ≤ length l → m ≡ over l i (rowWords r) → k ≡ over m (i + 12) (rowWords z) → k ≡ over l i (pairWords (pop (pairAt l i)))
-unfolding pop pairAt pairWords
-pop-over l m k i r z e f h p q =
-    let n : length (rowWords r) ≡ 12 = ap (λ (x : Row). length (rowWords x)) e ∙ row-length l (i + 12) (omega arith) in
-    rw (← e, ← f) (then-over l m k i (i + 12) (rowWords r) (rowWords z) (omega arith) (ap (λ (x : ℕ). i + x) (sym n)) p q)
-
+-- a queue with a message more, or less, still has rows of eight words
 pub push-full : (q : Pair) (m : Row) → PairFull q → length (m .words) ≡ 8 → PairFull (push q m)
 unfolding push
 push-full q m f n = go (eqb (q .a .n0) 0)
@@ -110,9 +93,9 @@ unfolding pop
 pop-full q f = record { first = f .second; second = refl }
 
 -- a tile told in place
-pub told-over : (l k : List ℕ) (at : ℕ) (m : Row) → at + 84 ≤ length l → length (m .words) ≡ 8 → k ≡ over l (at + 36) (pairWords (push (pairAt l (at + 36)) m)) → k ≡ over l at (tileWords (toldTile m (tileAt l at)))
+pub told-over : (l k : List ℕ) (at : ℕ) (m : Row) → at + 84 ≤ length l → PairFull (push (pairAt l (at + 36)) m) → k ≡ over l (at + 36) (pairWords (push (pairAt l (at + 36)) m)) → k ≡ over l at (tileWords (toldTile m (tileAt l at)))
 unfolding toldTile tileAt
-told-over l k at m h n e = e ∙ sym (over-noc2 l at h (push (pairAt l (at + 36)) m) (push-full (pairAt l (at + 36)) m (pair-full l (at + 36) (omega arith)) n))
+told-over l k at m h n e = e ∙ sym (over-noc2 l at h (push (pairAt l (at + 36)) m) n)
 
 -- the word that tells whether a tile's NoC2 has room
 pub room-word : (l : List ℕ) (at : ℕ) → eqb (getD l (at + 48) 0) 0 ≡ room (tileAt l at .noc2)

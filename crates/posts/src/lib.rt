@@ -4,7 +4,7 @@ ghost use mathlib.Core.Bool.{true};
 ghost use Prim.Native.Nat.{_+_, _*_, _≤_, _<_};
 ghost use lib.ListN.{length};
 ghost use mathlib.Core.List.{_∷_, []};
-ghost use Rattle.tile_steps.specs.Steps.{room, push, pop};
+ghost use Rattle.tile_steps.specs.Steps.{room, pop};
 ghost use Rattle.words.specs.Blocks.{pairAt, tileAt, homeAt, over, rowWords, pairWords, tileWords, homeWords, HomeFull};
 ghost use Rattle.bench_words.specs.Calls.{need};
 ghost use Rattle.posts.specs.Post.{rooms, toldTile, tellAll, homeAnswer, Kept, Committed};
@@ -34,35 +34,11 @@ fn rooms(w: &[u64], n: u64, to: u64) -> bool
     ok
 }
 
-// The message m put on the queue at place `at`.
-fn push_at(w: &mut [u64], at: usize, m: Row)
-    requires { ⌜ at + 24 ≤ length (now w) ⌝ }
-    ensures { λ _. ⌜ now (w .exit) ≡ over (now (w .entry)) at (pairWords (push (pairAt (now (w .entry)) at) m)) ⌝ }
-    ensures full { λ _. ⌜ length (m .words) ≡ 8 ⌝ }
-{
-    if w[at] == 0 {
-        words::write_row(w, at, m);
-        words::write_row(w, at + 12, tile_steps::bare(0, 0, 0, 0));
-    } else {
-        words::write_row(w, at + 12, m);
-    }
-}
-
-// The front of the queue at place `at` taken off.
-fn pop_at(w: &mut [u64], at: usize)
-    requires { ⌜ at + 24 ≤ length (now w) ⌝ }
-    ensures { λ _. ⌜ now (w .exit) ≡ over (now (w .entry)) at (pairWords (pop (pairAt (now (w .entry)) at))) ⌝ }
-{
-    let b = words::read_row(w, at + 12);
-    words::write_row(w, at, b);
-    words::write_row(w, at + 12, tile_steps::bare(0, 0, 0, 0));
-}
-
 fn tell_one(w: &mut [u64], i: u64, m: Row)
     requires { ⌜ (need (i + 1) ≤ length (now w)) × (i < 64) ⌝ }
     ensures { λ _. ⌜ now (w .exit) ≡ over (now (w .entry)) (74 + 84 * i) (tileWords (toldTile m (tileAt (now (w .entry)) (74 + 84 * i)))) ⌝ }
 {
-    push_at(w, 74 + 84 * (i as usize) + 36, m);
+    tile_steps::push_at(w, 74 + 84 * (i as usize) + 36, m);
 }
 
 // Puts the message m on NoC2 of every tile of the mask.
@@ -172,7 +148,7 @@ pub fn commit_with(w: &mut [u64], n: u64, v: u64, s: HomeStep, at: usize) -> Ans
     if s.refusal == 0 {
         let free = rooms(w, n, s.to);
         if free {
-            pop_at(w, at);
+            tile_steps::pop_at(w, at);
             finish_kept(w, n, s);
             home_answer(s, v)
         } else {

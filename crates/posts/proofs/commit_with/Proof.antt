@@ -12,10 +12,10 @@ finish-kept-requires : tie.Need-finish-kept-requires
 finish-kept-requires c κs =
     let a = c .before .before .before .before .before .before .before .before .before .before .before .args in
     let p = c .before .before .before .before .before .before .before .before .before .before .before .pre in
-    (search needs, p .1, subst (λ z. Kept z (a .s)) (sym (ap homeAt (c .before .before .before .pop-at .ensures) ∙ home-untouched (a .w .now) (a .at) _ (omega arith) (p .2))) (p .4))
+    (search needs, p .1, subst (λ z. Kept z (a .s)) (sym (ap homeAt (c .before .before .before .pop-at .ensures .0) ∙ home-untouched (a .w .now) (a .at) _ (omega arith) (p .2))) (p .4))
 
 returns : tie.Need-returns
-returns c = is-done (c .before .before .before .before .before .before .before .before .before .before .before .before .before .before .before .args .w .now) _ (c .before .before .before .before .before .before .before .before .before .before .before .before .before .before .before .args .n) (c .before .before .before .before .before .before .before .before .before .before .before .before .before .before .before .args .v) (c .before .before .before .before .before .before .before .before .before .before .before .before .before .before .before .args .s) _ _ (c .before .before .before .before .before .before .before .before .before .before .before .before .if1 .taken) (sym (c .before .before .before .before .before .before .before .before .before .before .rooms .ensures) ∙ c .before .before .before .before .before .before .before .before .before .if2 .taken) (c .home-answer .ensures) (c .before .before .before .finish-kept .ensures .0 ∙ ap (λ z. tellAll (over z 0 (homeWords (c .before .before .before .before .before .before .before .before .before .before .before .before .before .before .before .args .s .home))) 74 0 (c .before .before .before .before .before .before .before .before .before .before .before .before .before .before .before .args .s .to) (c .before .before .before .before .before .before .before .before .before .before .before .before .before .before .before .args .s .forward) (c .before .before .before .before .before .before .before .before .before .before .before .before .before .before .before .args .n)) (c .before .before .before .before .before .before .before .pop-at .ensures)) (c .before .before .before .finish-kept .ensures .1 .0) (c .before .before .before .finish-kept .ensures .1 .1)
+returns c = is-done (c .before .before .before .before .before .before .before .before .before .before .before .before .before .before .before .args .w .now) _ (c .before .before .before .before .before .before .before .before .before .before .before .before .before .before .before .args .n) (c .before .before .before .before .before .before .before .before .before .before .before .before .before .before .before .args .v) (c .before .before .before .before .before .before .before .before .before .before .before .before .before .before .before .args .s) _ _ (c .before .before .before .before .before .before .before .before .before .before .before .before .if1 .taken) (sym (c .before .before .before .before .before .before .before .before .before .before .rooms .ensures) ∙ c .before .before .before .before .before .before .before .before .before .if2 .taken) (c .home-answer .ensures) (c .before .before .before .finish-kept .ensures .0 ∙ ap (λ z. tellAll (over z 0 (homeWords (c .before .before .before .before .before .before .before .before .before .before .before .before .before .before .before .args .s .home))) 74 0 (c .before .before .before .before .before .before .before .before .before .before .before .before .before .before .before .args .s .to) (c .before .before .before .before .before .before .before .before .before .before .before .before .before .before .before .args .s .forward) (c .before .before .before .before .before .before .before .before .before .before .before .before .before .before .before .args .n)) (c .before .before .before .before .before .before .before .pop-at .ensures .0)) (c .before .before .before .finish-kept .ensures .1 .0) (c .before .before .before .finish-kept .ensures .1 .1)
 
 returns-2 : tie.Need-returns-2
 returns-2 c = is-full (c .before .before .before .before .before .before .before .args .w .now) _ (c .before .before .before .before .before .before .before .args .n) (c .before .before .before .before .before .before .before .args .v) (c .before .before .before .before .before .before .before .args .s) _ _ (c .before .before .before .before .if1 .taken) (sym (c .before .before .rooms .ensures) ∙ c .before .if2 .left) (c .refused .ensures) refl
