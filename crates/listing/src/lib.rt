@@ -95,6 +95,15 @@ fn put_number(buf: &mut [u8], at: usize, n: u64) -> usize
     put_digits(buf, at, 10, w, n)
 }
 
+// A number whose width is known, and the byte behind it.
+fn put_wide_then(buf: &mut [u8], at: usize, n: u64, w: usize, end: u8) -> usize
+    requires { ⌜ (w ≡ length (decimal n)) × (at + w + 1 ≤ length (now buf)) ⌝ }
+    ensures { λ r. ⌜ Put (now (buf .entry)) (now (buf .exit)) at r (numberThen n end) ⌝ }
+{
+    let p = put_digits(buf, at, 10, w, n);
+    put_byte(buf, p, end)
+}
+
 fn put_number_then(buf: &mut [u8], at: usize, n: u64, end: u8) -> usize
     requires { ⌜ at + length (decimal n) + 1 ≤ length (now buf) ⌝ }
     ensures { λ r. ⌜ Put (now (buf .entry)) (now (buf .exit)) at r (numberThen n end) ⌝ }
@@ -142,20 +151,13 @@ fn put_bench(buf: &mut [u8], at: usize, tiles: u64, address: u64) -> usize
     put_address_end(buf, q, address)
 }
 
-fn put_pair(buf: &mut [u8], at: usize, a: u64, b: u64, end: u8) -> usize
-    requires { ⌜ at + (length (decimal a) + length (decimal b) + 2) ≤ length (now buf) ⌝ }
+// Two numbers, each with its width.
+fn put_pair(buf: &mut [u8], at: usize, a: u64, aw: usize, b: u64, bw: usize, end: u8) -> usize
+    requires { ⌜ (aw ≡ length (decimal a)) × ((bw ≡ length (decimal b)) × (at + (aw + bw + 2) ≤ length (now buf))) ⌝ }
     ensures { λ r. ⌜ Put (now (buf .entry)) (now (buf .exit)) at r (numberThen a 32 ++ numberThen b end) ⌝ }
 {
-    let p = put_number_then(buf, at, a, 32);
-    put_number_then(buf, p, b, end)
-}
-
-fn put_call(buf: &mut [u8], at: usize, number: u64, refusal: u64, kind: u64, value: u64) -> usize
-    requires { ⌜ at + (length (decimal number) + length (decimal refusal) + length (decimal kind) + length (decimal value) + 4) ≤ length (now buf) ⌝ }
-    ensures { λ r. ⌜ Put (now (buf .entry)) (now (buf .exit)) at r (callLine number refusal kind value) ⌝ }
-{
-    let p = put_pair(buf, at, number, refusal, 32);
-    put_pair(buf, p, kind, value, 10)
+    let p = put_wide_then(buf, at, a, aw, 32);
+    put_wide_then(buf, p, b, bw, end)
 }
 
 fn put_message(buf: &mut [u8], at: usize, flits: &[u64]) -> usize
@@ -262,7 +264,8 @@ pub fn call_line(
     let c = width(kind);
     let d = width(value);
     if lists::room(buf.len(), at, a + b + c + d + 4) {
-        put_call(buf, at, number, refusal, kind, value)
+        let p = put_pair(buf, at, number, a, refusal, b, 32);
+        put_pair(buf, p, kind, c, value, d, 10)
     } else {
         buf.len() + 1
     }
