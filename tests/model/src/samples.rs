@@ -20,6 +20,19 @@ pub fn state(state: u64, m: Message) -> Message {
     Message { state, ..m }
 }
 
+/// Every message of NoC3, those with data made by `full`.
+pub fn replies(full: impl Fn(u64) -> Message) -> [Message; 7] {
+    [
+        full(WB_REQ),
+        state(S, full(LOAD_FWDACK)),
+        state(S, plain(LOAD_FWDACK)),
+        plain(LOAD_FWDACK),
+        full(STORE_FWDACK),
+        plain(STORE_FWDACK),
+        plain(INV_FWDACK),
+    ]
+}
+
 pub fn queue(messages: &[Message]) -> Queue {
     let mut q = Queue::default();
     messages.iter().for_each(|&m| q.push(m));

@@ -2,7 +2,7 @@
 
 use model::bench::*;
 use model::flits::*;
-use model::samples::{all_calls, full, plain, queue, state, DATA};
+use model::samples::{all_calls, full, plain, queue, replies, state, DATA};
 use model::steps::*;
 
 fn fresh(tiles: u64) -> Bench {
@@ -357,15 +357,7 @@ fn deliveries_to_a_tile() {
 /// Every phase, reason, owner, requester, marks and owed tiles against every message of NoC3.
 #[test]
 fn deliveries_from_a_tile() {
-    let acks = [
-        full(WB_REQ),
-        state(S, full(LOAD_FWDACK)),
-        state(S, plain(LOAD_FWDACK)),
-        plain(LOAD_FWDACK),
-        full(STORE_FWDACK),
-        plain(STORE_FWDACK),
-        plain(INV_FWDACK),
-    ];
+    let acks = replies(full);
     let mut fitted = 0;
     for m in acks {
         for directory in [I, S, E] {

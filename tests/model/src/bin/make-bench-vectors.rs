@@ -5,7 +5,7 @@ use model::bench::*;
 use model::flits::*;
 use model::job;
 use model::random::Random;
-use model::samples::{all_calls, plain, state};
+use model::samples::{all_calls, plain, replies, state};
 use model::steps::*;
 use model::words::{self, decode, encode, need, tile_place, Told};
 use std::fmt::Write;
@@ -742,15 +742,7 @@ fn phases() -> Vec<Home> {
 
 fn from_tiles(v: &mut Vectors) {
     v.remark("delivery from tile 1: every message, phase and directory; no tile owed too");
-    let messages = [
-        full(WB_REQ),
-        state(S, full(LOAD_FWDACK)),
-        state(S, plain(LOAD_FWDACK)),
-        plain(LOAD_FWDACK),
-        full(STORE_FWDACK),
-        plain(STORE_FWDACK),
-        plain(INV_FWDACK),
-    ];
+    let messages = replies(full);
     let call = Call::FromTile { tile: 1 };
     for home in phases() {
         for m in messages {
