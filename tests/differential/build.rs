@@ -1,4 +1,4 @@
-//! Links the archive of the proved crates, which `rt staticlib exports` writes.
+//! Links the archive of the proved crates, which `bin/archive` writes.
 
 fn main() {
     let root = std::path::Path::new(&std::env::var("CARGO_MANIFEST_DIR").unwrap()).join("../../target/staticlib");

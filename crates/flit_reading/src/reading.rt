@@ -1,7 +1,7 @@
 ghost use mathlib.Core.Path.{_≡_};
 ghost use mathlib.Core.Bool.{cond};
-ghost use lib.ListN.{getD, drop};
-ghost use Rattle.flit_reading.specs.Reading.{lowest, refusals, answer, readOf, dataOf};
+ghost use lib.ListN.{getD};
+ghost use Rattle.flit_reading.specs.Reading.{lowest, refusals, answer, readOf};
 use crate::Read;
 use flit_rules::Row;
 use flit_words::Header;
@@ -107,35 +107,4 @@ pub fn read(flits: &[u64]) -> Read
     let used = bits::cut(flit1, 22, 8) + 1;
     let start = header_extra(row.three) + 1;
     answer(n, h, used as usize, start as usize)
-}
-
-// The data of the front message: the same words of the caller's flits, or an empty part.
-pub fn data_words(flits: &[u64]) -> &[u64]
-    ensures { λ r. ⌜ now r ≡ dataOf (now (flits .entry)) ⌝ }
-{
-    let r = read(flits);
-    let start = r.start;
-    let used = r.used;
-    &flits[start..used]
-}
-
-// The same at a place: of the flits from there on, of which there are none past the end.
-pub fn read_at(flits: &[u64], at: usize) -> Read
-    ensures { λ r. ⌜ r ≡ readOf (drop at (now (flits .entry))) ⌝ }
-{
-    if at < flits.len() {
-        read(&flits[at..])
-    } else {
-        read(&flits[..0])
-    }
-}
-
-pub fn data_words_at(flits: &[u64], at: usize) -> &[u64]
-    ensures { λ r. ⌜ now r ≡ dataOf (drop at (now (flits .entry))) ⌝ }
-{
-    if at < flits.len() {
-        data_words(&flits[at..])
-    } else {
-        &flits[..0]
-    }
 }

@@ -93,7 +93,7 @@ fn show_read(s: &[u64]) {
     let h = r.header;
     fields(h);
     text(b" data");
-    words(flits::reading::data_words(s));
+    words(flit_places::data_words(s));
 }
 
 fn show_walk(s: &[u64]) {

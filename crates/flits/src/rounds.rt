@@ -14,7 +14,7 @@ pub fn copy(flits: &[u64], buffer: &mut [u64], at: usize) -> Written
     let front = flit_reading::reading::read(flits);
     if front.refusal == 0 {
         let h = front.header;
-        let words = flit_reading::reading::data_words(flits);
+        let words = flit_places::data_words(flits);
         flit_writing::writing::write(h, words, buffer, at)
     } else {
         Written {
@@ -30,7 +30,7 @@ pub fn echo(h: Header, words: &[u64], buffer: &mut [u64], at: usize) -> Read
 {
     let done = flit_writing::writing::write(h, words, buffer, at);
     if done.refusal == 0 {
-        flit_reading::reading::read_at(buffer, at)
+        flit_places::read_at(buffer, at)
     } else {
         flit_reading::reading::answer(done.refusal, h, 0, 0)
     }

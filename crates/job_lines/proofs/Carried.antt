@@ -24,9 +24,9 @@ use Rattle.messages.specs.declared.Sent.{Sent}
 use Rattle.messages.specs.Rows.{sentOf}
 use Rattle.words.specs.declared.Row.{Row}
 use Rattle.flit_table.specs.Table.{rowOf, extra}
-use Rattle.message_flits.specs.Fields as fields
-use Rattle.message_flits.specs.Fields.{fieldsOf, wordsOf, dataCount, Carried}
-use Rattle.message_flits.proofs.Accepted.{LineAddress, carried-accepted}
+use Rattle.message_fields.specs.Fields as fields
+use Rattle.message_fields.specs.Fields.{fieldsOf, wordsOf, dataCount, Carried}
+use Rattle.message_round.proofs.Accepted.{LineAddress, carried-accepted}
 use Rattle.message_flits.proofs.Count.{count-le}
 use Rattle.job_lines.specs.Listing.{sentFlits}
 use Rattle.job_lines.specs.Rules.{messageFlits}

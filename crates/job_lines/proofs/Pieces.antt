@@ -18,7 +18,7 @@ use Rattle.flit_words.specs.declared.Header.{Header}
 use Rattle.flit_table.specs.Table.{rowOf, extra}
 use Rattle.flit_writing.specs.Writing.{refusals, writeRefusal, flitsOf, over, writtenOf, bufferOf}
 use Rattle.flit_writing.specs.declared.Written.{Written}
-use Rattle.message_flits.specs.Fields.{fieldsOf, wordsOf}
+use Rattle.message_fields.specs.Fields.{fieldsOf, wordsOf}
 use Rattle.flit_reading.proofs.ReadLaws.{holds}
 use Rattle.flit_writing.proofs.WriteLaws.{header-length}
 use Rattle.job_lines.specs.Pieces.{buffersAfter, placesAfter, AllPlaced}

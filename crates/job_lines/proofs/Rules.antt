@@ -20,7 +20,7 @@ use Rattle.sent.specs.Places.{nowhere, placesOf}
 use Rattle.messages.specs.Rows.{sentAt, messageOf, sentOf, noSent}
 use Rattle.messages.proofs.Answers.{Gives}
 use Rattle.messages.proofs.Calls.{sent-by-call}
-use Rattle.message_flits.proofs.Accepted.{LineAddress}
+use Rattle.message_round.proofs.Accepted.{LineAddress}
 use Rattle.listing.specs.Lines.{benchLine, callLine, messageLine}
 use Rattle.job_format.specs.Job.{bigAt, tilesOf, addressOf, memoryOf, callsOf}
 use Rattle.job_format.proofs.Numbers.{below-more}

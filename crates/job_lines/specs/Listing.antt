@@ -11,7 +11,7 @@ use Rattle.sent.specs.declared.Place.{Place}
 use Rattle.sent.specs.Places.{placesOf}
 use Rattle.messages.specs.declared.Sent.{Sent}
 use Rattle.messages.specs.Rows.{sentAt}
-use Rattle.message_flits.specs.Fields.{fieldsOf, wordsOf}
+use Rattle.message_fields.specs.Fields.{fieldsOf, wordsOf}
 use Rattle.flit_writing.specs.Writing.{writeRefusal, flitsOf}
 use Rattle.listing.specs.Lines.{benchLine, callLine, messageLine, endLine}
 use Rattle.job_format.specs.Job.{tilesOf, addressOf, memoryOf, callsOf}

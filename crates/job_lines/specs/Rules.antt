@@ -7,7 +7,7 @@ use Rattle.protocol.specs.Parts.{Message, Bench, Call, Result, refused, accepte
 use Rattle.protocol.specs.Bench.{fresh, step}
 use Rattle.protocol.specs.Demand3.{after}
 use Rattle.messages.specs.Rows.{sentOf}
-use Rattle.message_flits.specs.Fields.{fieldsOf, wordsOf}
+use Rattle.message_fields.specs.Fields.{fieldsOf, wordsOf}
 use Rattle.flit_writing.specs.Writing.{flitsOf}
 use Rattle.listing.specs.Lines.{benchLine, callLine, messageLine, endLine}
 use Rattle.job_format.specs.Job as job

@@ -12,7 +12,7 @@ use Rattle.flit_table.specs.Table.{rowOf, extra}
 use Rattle.flit_writing.specs.declared.Written.{Written}
 use Rattle.flit_writing.specs.Writing.{writtenOf, bufferOf}
 use Rattle.words.specs.declared.Row.{Row}
-use Rattle.message_flits.specs.Fields.{headerOf, fieldsOf, dataCount, wordsOf}
+use Rattle.message_fields.specs.Fields.{headerOf, fieldsOf, dataCount, wordsOf}
 
 pub count-le : (e : Entry) (flag : ℕ) → dataCount e flag ≤ 8
 unfolding dataCount

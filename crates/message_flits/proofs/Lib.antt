@@ -1,4 +1,1 @@
 pub mod Count
-pub mod Accepted
-pub mod ReadsBack
-pub mod Beats

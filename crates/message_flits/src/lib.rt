@@ -3,7 +3,7 @@ ghost use mathlib.Core.Path.{_≡_};
 ghost use lib.ListN.{length};
 ghost use Rattle.flit_table.specs.Table.{extra};
 ghost use Rattle.flit_writing.specs.Writing.{writtenOf, bufferOf};
-ghost use Rattle.message_flits.specs.Fields.{node, destination, source, tagOf, wordAddress, addressOf, sizeOf, sourceOf, missOf, headerOf, fieldsOf, dataCount, wordsOf};
+ghost use Rattle.message_fields.specs.Fields.{node, destination, source, tagOf, wordAddress, addressOf, sizeOf, sourceOf, missOf, headerOf, fieldsOf, dataCount, wordsOf};
 use flit_words::Header;
 use flit_words::Node;
 use flits::Written;

@@ -5,7 +5,7 @@ ghost use Rattle.bench_words.specs.Calls.{stepOn, answerOf, wordsAfter, tileCal
 use bench_words::Answer;
 
 // One of the calls at a tile: 0 load, 1 store, 2 evict, else delivery to the tile.
-fn at_tile(w: &mut [u64], c: u64, t: u64, word: u64, value: u64) -> Answer
+pub fn at_tile(w: &mut [u64], c: u64, t: u64, word: u64, value: u64) -> Answer
     ensures answer { λ r. ⌜ r ≡ answerOf (stepOn (now (w .entry)) (tileCall c t word value)) ⌝ }
     ensures words { λ _. ⌜ now (w .exit) ≡ wordsAfter (now (w .entry)) (stepOn (now (w .entry)) (tileCall c t word value)) ⌝ }
 {

@@ -36,7 +36,7 @@ pub fn moved<'a>(w: Walker<'a>, at: usize) -> Walker<'a>
 pub fn next<'a>(w: Walker<'a>) -> Read
     ensures { λ r. ⌜ r ≡ readOf (drop (w .entry .at) (now (w .entry .flits))) ⌝ }
 {
-    flits::reading::read_at(w.flits, w.at)
+    flit_places::read_at(w.flits, w.at)
 }
 
 // The message at a place of a recording, by a walker that is moved there.

@@ -1,4 +1,4 @@
-//! The proved reference (the archive of `rt staticlib exports`) against the model of tests/model, compared by equality; and
+//! The proved reference (the archive that `bin/archive` writes) against the model of tests/model, compared by equality; and
 //! what the benchmark needs. A part of the test is cases, each made from the seed and its number alone.
 
 pub mod benches;

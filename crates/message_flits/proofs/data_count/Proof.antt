@@ -1,6 +1,6 @@
 use mathlib.Core.Path.{refl, sym, _∙_}
 use borrow.Author.Tests.{eq-eqb, ne-eqb, lt-ltb, le-ltb, le-leb, lt-leb}
-use Rattle.message_flits.specs.Fields.{dataCount}
+use Rattle.message_fields.specs.Fields.{dataCount}
 use borrow.Author.Needs.{needs}
 use Rattle.message_flits.proofs.data_count.Statement.{statement}
 use Rattle.message_flits.proofs.data_count.Tie as tie

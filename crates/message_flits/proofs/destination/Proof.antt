@@ -1,6 +1,6 @@
 use mathlib.Core.Path.{refl}
 use borrow.Author.Tests.{eq-eqb, ne-eqb, lt-ltb, le-ltb, le-leb, lt-leb}
-use Rattle.message_flits.specs.Fields.{destination}
+use Rattle.message_fields.specs.Fields.{destination}
 use borrow.Author.Needs.{needs}
 use Rattle.message_flits.proofs.destination.Statement.{statement}
 use Rattle.message_flits.proofs.destination.Tie as tie

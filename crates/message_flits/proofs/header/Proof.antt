@@ -1,6 +1,6 @@
 use mathlib.Core.Path.{refl}
 use borrow.Author.Tests.{eq-eqb, ne-eqb, lt-ltb, le-ltb, le-leb, lt-leb}
-use Rattle.message_flits.specs.Fields.{headerOf}
+use Rattle.message_fields.specs.Fields.{headerOf}
 use borrow.Author.Needs.{needs}
 use Rattle.message_flits.proofs.header.Statement.{statement}
 use Rattle.message_flits.proofs.header.Tie as tie

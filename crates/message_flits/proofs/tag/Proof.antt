@@ -1,6 +1,6 @@
 use mathlib.Core.Path.{refl}
 use borrow.Author.Tests.{eq-eqb, ne-eqb, lt-ltb, le-ltb, le-leb, lt-leb}
-use Rattle.message_flits.specs.Fields.{tagOf}
+use Rattle.message_fields.specs.Fields.{tagOf}
 use Rattle.message_flits.proofs.tag.Statement.{statement}
 use Rattle.message_flits.proofs.tag.Tie as tie
 

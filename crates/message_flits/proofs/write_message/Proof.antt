@@ -3,7 +3,7 @@ use mathlib.Core.Path.{_≡_, refl, sym, ap, _∙_}
 use native.Mathlib.Omega.{arith}
 use lib.ListN.{length}
 use lib.Seq.{length-take-le}
-use Rattle.message_flits.specs.Fields.{dataCount, wordsOf}
+use Rattle.message_fields.specs.Fields.{dataCount, wordsOf}
 use Rattle.message_flits.proofs.Count.{count-le, written}
 use borrow.Author.Needs.{needs}
 use Rattle.message_flits.proofs.write_message.Statement.{statement}

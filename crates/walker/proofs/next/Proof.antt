@@ -49,10 +49,10 @@ use Rattle.walker.proofs.Walker as T
 use Rattle.walker.proofs.Walker.Laws as T′
 use Rattle.flit_reading.proofs.Read as S
 use Rattle.flit_reading.proofs.Read.Laws as S′
-use Rattle.flit_reading.proofs.reading.read_at as step
-use Rattle.flit_reading.proofs.reading.read_at.Symbol as step-def
-use Rattle.flit_reading.proofs.reading.read_at.Symbol.{name as #flits·read-at}
-use Rattle.flit_reading.proofs.reading.read_at.Met as step-thm
+use Rattle.flit_places.proofs.read_at as step
+use Rattle.flit_places.proofs.read_at.Symbol as step-def
+use Rattle.flit_places.proofs.read_at.Symbol.{name as #flits·read-at}
+use Rattle.flit_places.proofs.read_at.Met as step-thm
 use Rattle.walker.proofs.next.Key.{name as #walker·next}
 use Rattle.walker.proofs.next as next
 use Rattle.walker.proofs.next.Statement as stated
@@ -162,4 +162,4 @@ next-spec 𝓤 H 𝓜 𝓖 𝓡 =
     entered 𝓤 H (tripleOf 𝓤 H (𝓖 .A) next.signature (next.spec 𝓤 H (𝓖 .A) (𝓜 .mem) (𝓡 .run)))
     (tables 𝓤 H 𝓜 𝓡 code.env .C) (tables 𝓤 H 𝓜 𝓡 code.env .Λ) #walker·next code.function (code.unfolded 𝓤 H 𝓜 𝓡)
     (next-meets 𝓤 H (𝓖 .A) (givenOf 𝓤 H 𝓜 𝓖) (𝓜 .mem) (𝓡 .run) (tablesOf 𝓤 H 𝓜 (tables 𝓤 H 𝓜 𝓡 code.env))
-    (cited 𝓤 H (StepAt 𝓤 H (𝓖 .A) (𝓜 .mem) (𝓡 .run)) 𝓜 𝓡 code.env #flits·read-at step-def.routine code.calls-flits·reading·read-at (step-thm.met 𝓤 H 𝓜 𝓖 𝓡)))
+    (cited 𝓤 H (StepAt 𝓤 H (𝓖 .A) (𝓜 .mem) (𝓡 .run)) 𝓜 𝓡 code.env #flits·read-at step-def.routine code.calls-flit-places·read-at (step-thm.met 𝓤 H 𝓜 𝓖 𝓡)))

@@ -1,0 +1,20 @@
+use mathlib.Core.Path.{refl}
+use borrow.Author.Tests.{eq-eqb, ne-eqb}
+use Rattle.bench_words.specs.Calls.{answerOf, wordsStarted}
+use Rattle.given.specs.Given.{startFrom}
+use borrow.Author.Needs.{needs}
+use Rattle.given.proofs.start_from.Statement.{statement}
+use Rattle.given.proofs.start_from.Tie as tie
+
+returns : tie.Need-returns
+unfolding startFrom
+returns c = simp (eq-eqb _ _ (c .before .before .before .before .before .if1 .taken), ← c .before .before .before .eight .ensures) (c .before .before .start .ensures)
+
+returns-2 : tie.Need-returns-2
+unfolding startFrom answerOf wordsStarted
+returns-2 c = simp (ne-eqb _ _ (c .before .if1 .left)) (c .refused .ensures, refl)
+
+pub start-from-spec : {M : Type 1} → statement M
+start-from-spec =
+    tie.close
+    (tie.spec (λ c κs. search needs) (λ c κs. search needs) (λ c κs. search needs) (λ c. search needs) returns returns-2)

@@ -1,0 +1,16 @@
+-- What the functions are given in lent words: a start.
+use Prim.Native.Nat.{ℕ}
+use mathlib.Core.Bool.{Bool, cond}
+use mathlib.Core.List.{List}
+use lib.Dec.{eqb}
+use lib.ListN.{length}
+use Rattle.protocol.specs.Parts.{Bench, Result, refused}
+use Rattle.bench_words.specs.Calls.{startOn}
+
+-- a start with lent memory words: other than eight are refused 1
+unfoldable pub startFrom : List ℕ → ℕ → List ℕ → Result Bench
+startFrom l n mem = cond (eqb (length mem) 8) (startOn l n mem) (refused 1)
+
+-- true is 1, false is 0
+abbrev pub bit : Bool → ℕ
+bit b = cond b 1 0

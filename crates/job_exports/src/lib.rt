@@ -1,0 +1,48 @@
+// Jobs: the check of a whole job, and its calls made one by one with their lines of the listing.
+ghost use mathlib.Core.Path.{_≡_};
+ghost use mathlib.Core.List.{_∷_, []};
+ghost use Rattle.bench_words.specs.Calls.{stepOn, answerOf, wordsAfter};
+ghost use Rattle.job_format.specs.Job.{checkJob, jobCallAt};
+ghost use Rattle.job_lines.specs.Pieces.{buffersAfter, placesAfter};
+ghost use Rattle.job_lines.specs.Listing.{callLines};
+ghost use Rattle.telling.specs.Told.{told, checkedWords};
+ghost use Rattle.job_exports.specs.Given.{callIn};
+use telling::tell_checked;
+use telling::tell_two;
+
+// Checks a whole job. Tells the refusal number and the offset of the bad field.
+#[no_mangle]
+pub extern "C" fn duzh_check_job(job: &[u8], out: &mut [u64]) -> u64
+    ensures refusal { λ r. ⌜ r ≡ checkJob (now (job .entry)) .refusal ⌝ }
+    ensures told { λ _. ⌜ now (out .exit) ≡ told (now (out .entry)) (checkedWords (checkJob (now (job .entry)))) ⌝ }
+{
+    let a = job_format::check_job(job);
+    tell_checked(out, a)
+}
+
+// Makes the call that stands at a place of a job (80 for the first) on the bench in the words, and writes its lines of the listing, as
+// call number `number`, at place p of the text. Returns the call's refusal number. Tells the place behind the lines, which is past the
+// text's end where they do not all fit, and the place of the next call.
+#[no_mangle]
+pub extern "C" fn duzh_run_call(
+    w: &mut [u64],
+    job: &[u8],
+    at: usize,
+    number: u64,
+    line: u64,
+    text: &mut [u8],
+    p: usize,
+    out: &mut [u64],
+) -> u64
+    ensures refusal { λ r. ⌜ r ≡ answerOf (stepOn (now (w .entry)) (callIn (now (job .entry)) at)) .refusal ⌝ }
+    ensures words { λ _. ⌜ now (w .exit) ≡ wordsAfter (now (w .entry)) (stepOn (now (w .entry)) (callIn (now (job .entry)) at)) ⌝ }
+    ensures text { λ _. ⌜ now (text .exit) ≡ buffersAfter (now (text .entry)) p (callLines line number (callIn (now (job .entry)) at) (now (w .entry))) ⌝ }
+    ensures told { λ _. ⌜ now (out .exit) ≡ told (now (out .entry)) (placesAfter (now (text .entry)) p (callLines line number (callIn (now (job .entry)) at) (now (w .entry))) ∷ jobCallAt (now (job .entry)) at .next ∷ []) ⌝ }
+{
+    let c = job_format::call_at(job, at);
+    let next = c.next;
+    let a = jobs::run_call(w, c);
+    let place = job_lines::answer_lines(text, p, w, line, number, a);
+    tell_two(out, place as u64, next);
+    a.refusal
+}
