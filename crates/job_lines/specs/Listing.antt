@@ -13,12 +13,12 @@ use Rattle.messages.specs.declared.Sent.{Sent}
 use Rattle.messages.specs.Rows.{sentAt}
 use Rattle.message_flits.specs.Fields.{fieldsOf, wordsOf}
 use Rattle.flit_writing.specs.Writing.{writeRefusal, flitsOf}
-use Rattle.listing.specs.Lines.{benchLine, callLine, messageLine, endLine}
+use Rattle.lines.specs.Lines.{benchLine, callLine, messageLine, endLine}
 use Rattle.job_format.specs.Job.{tilesOf, addressOf, memoryOf, callsOf}
 use Rattle.jobs.specs.Run.{benchCall}
 
 -- the flits of a message that was sent, of the line with this address; none where the flit crate refuses it, which it does for no
--- message of an accepted job (specs/Rules)
+-- message of an accepted job (whole_listing, specs/Rules)
 unfoldable pub sentFlits : ℕ → Sent → List ℕ
 sentFlits line m =
     cond (eqb (writeRefusal (fieldsOf line (m .queue) (m .tile) (m .row)) (length (wordsOf (m .row))) 11 0) 0)

@@ -11,16 +11,20 @@ use Rattle.lists.specs.Over.{over, Placed, Put}
 use Rattle.lists.proofs.OverLaws.{over-nil, over-over, placed-put}
 use Rattle.bench_words.specs.Calls.{startOn, wordsStarted}
 use Rattle.bench.specs.Runs.{afterCall}
-use Rattle.listing.specs.Lines.{benchLine, endLine, refusedLine}
-use Rattle.listing.proofs.LineLaws.{bench-length, end-length, refused-length}
-use Rattle.job_format.specs.declared.Checked.{Checked}
+use Rattle.lines.specs.Lines.{benchLine, endLine, refusedLine}
+use Rattle.listing.proofs.BenchLaws.{bench-length}
+use Rattle.number_lines.proofs.NumberLaws.{end-length}
+use Rattle.refused_lines.proofs.RefusedLaws.{refused-length}
+use Rattle.job_check.specs.declared.Checked.{Checked}
 use Rattle.job_format.specs.declared.JobCall.{JobCall}
-use Rattle.job_format.specs.Job.{checkJob, headerEnd, tilesOf, addressOf, memoryOf, callAt, nextAt, jobCallAt, callOf}
+use Rattle.job_bytes.specs.Bytes.{nextAt}
+use Rattle.job_check.specs.Check.{checkJob}
+use Rattle.job_format.specs.Job.{headerEnd, tilesOf, addressOf, memoryOf, callAt, jobCallAt, callOf}
 use Rattle.job_format.proofs.Calls.{call-in, next-in}
 use Rattle.jobs.specs.Run.{benchCall}
 use Rattle.job_lines.specs.Pieces.{AllPlaced}
 use Rattle.job_lines.specs.Listing.{callLines}
-use Rattle.job_lines.proofs.Room.{decimal-le, answer-le, room}
+use Rattle.whole_listing.proofs.Room.{decimal-le, answer-le, room}
 use Rattle.run_lines.specs.declared.Run.{Run}
 use Rattle.run_lines.specs.Run.{most, Left, behind, paused, ended, callBytes, callWords, turnsFrom, acceptedPiece, firstPiece, nextPiece, runOf, Puts, callLeft}
 

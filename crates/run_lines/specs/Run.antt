@@ -8,14 +8,16 @@ use lib.ListN.{length}
 use Rattle.lists.specs.Over.{over}
 use Rattle.bench_words.specs.Calls.{startOn, wordsStarted}
 use Rattle.bench.specs.Runs.{afterCall}
-use Rattle.listing.specs.Lines.{benchLine, endLine, refusedLine}
-use Rattle.job_format.specs.Job.{checkJob, headerEnd, tilesOf, addressOf, memoryOf, callAt, nextAt}
+use Rattle.lines.specs.Lines.{benchLine, endLine, refusedLine}
+use Rattle.job_bytes.specs.Bytes.{nextAt}
+use Rattle.job_check.specs.Check.{checkJob}
+use Rattle.job_format.specs.Job.{headerEnd, tilesOf, addressOf, memoryOf, callAt}
 use Rattle.jobs.specs.Run.{benchCall}
 use Rattle.job_lines.specs.Listing.{callLines}
-use Rattle.job_lines.specs.Whole.{bytesOf}
+use Rattle.whole_listing.specs.Whole.{bytesOf}
 use Rattle.run_lines.specs.declared.Run.{Run}
 
--- The lines of one call are never more (job_lines, Room-statement), so with so many bytes left the next lines fit.
+-- The lines of one call are never more (whole_listing, Room-statement), so with so many bytes left the next lines fit.
 abbrev pub most : ℕ
 most = 12180
 

@@ -5,7 +5,7 @@ ghost use Prim.Native.Nat.{suc, _+_, _≤_, _<_};
 ghost use mathlib.Core.Bool.{true};
 ghost use mathlib.Core.List.{[]};
 ghost use lib.ListN.{length};
-ghost use Rattle.listing.specs.Lines.{endLine, refusedLine};
+ghost use Rattle.lines.specs.Lines.{endLine, refusedLine};
 ghost use Rattle.run_lines.specs.Run.{most, turnsFrom, acceptedPiece, firstPiece, nextPiece, ended, callLeft, Puts};
 
 // A run after a piece: how many bytes of the listing stand at the buffer's start, whether there are more, where the next call stands in
