@@ -3,8 +3,8 @@ ghost use mathlib.Core.Path.{_≡_};
 ghost use Prim.Native.Nat.{_+_, _≤_};
 ghost use lib.ListN.{length};
 ghost use Rattle.job_format.specs.Job.{tilesOf, addressOf, memoryWord, memoryOf, partOf, jobCallAt};
-pub use job_check::check_job;
 pub use job_check::Checked;
+pub use job_check::check_job;
 
 // A call that a job holds, and the place of the field behind it.
 pub struct JobCall {
@@ -33,7 +33,11 @@ pub fn line_address(job: &[u8]) -> u64
 pub fn memory_word(job: &[u8], i: usize) -> u64
     ensures { λ r. ⌜ r ≡ memoryWord (now (job .entry)) i ⌝ }
 {
-    if i < 8 { job_bytes::big_at(job, 16 + i * 8, 8) } else { 0 }
+    if i < 8 {
+        job_bytes::big_at(job, 16 + i * 8, 8)
+    } else {
+        0
+    }
 }
 
 // All eight of them.
@@ -57,7 +61,11 @@ fn part(job: &[u8], at: usize, n: usize, size: u64, before: u64) -> u64
     requires { ⌜ (n ≤ 8) × (at ≤ length (now job) + 80) ⌝ }
     ensures { λ r. ⌜ r ≡ partOf (now (job .entry)) at n size before ⌝ }
 {
-    if before < size { job_bytes::big_at(job, at, n) } else { 0 }
+    if before < size {
+        job_bytes::big_at(job, at, n)
+    } else {
+        0
+    }
 }
 
 fn job_call(tag: u64, tile: u64, word: u64, value: u64, next: usize) -> JobCall

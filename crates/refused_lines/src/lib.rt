@@ -23,14 +23,7 @@ fn put_offset(buf: &mut [u8], at: usize, n: u64, w: usize) -> usize
 }
 
 // Number and offset, each with its width.
-fn put_refused(
-    buf: &mut [u8],
-    at: usize,
-    number: u64,
-    a: usize,
-    offset: u64,
-    b: usize,
-) -> usize
+fn put_refused(buf: &mut [u8], at: usize, number: u64, a: usize, offset: u64, b: usize) -> usize
     requires { ⌜ (a ≡ length (decimal number)) × ((b ≡ length (decimal offset)) × (at + (a + b + 17) ≤ length (now buf))) ⌝ }
     ensures { λ r. ⌜ Put (now (buf .entry)) (now (buf .exit)) at r (refusedLine number offset) ⌝ }
 {

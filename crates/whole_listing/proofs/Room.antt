@@ -21,10 +21,10 @@ use Rattle.flit_writing.specs.Writing.{writeRefusal, flitsOf}
 use Rattle.lines.specs.Lines.{digitByte, decimalFrom, decimal, callLine, messageLine}
 use Rattle.number_lines.proofs.NumberLaws.{call-length}
 use Rattle.message_lines.proofs.FlitLaws.{message-length}
-use Rattle.job_lines.specs.Pieces.{buffersAfter, placesAfter, AllPlaced}
-use Rattle.job_lines.specs.Listing.{sentFlits, sentLine, sentLines, answerLines}
+use Rattle.answer_lines.specs.Pieces.{buffersAfter, placesAfter, AllPlaced}
+use Rattle.answer_lines.specs.Answer.{sentFlits, sentLine, sentLines, answerLines}
 use Rattle.whole_listing.specs.Whole.{bytesOf, Room-statement}
-use Rattle.job_lines.proofs.Pieces.{fits, flits-length}
+use Rattle.answer_lines.proofs.Pieces.{fits, flits-length}
 use Rattle.whole_listing.proofs.Whole.{fitted}
 
 pub decimal-le : (f n : ℕ) → length (decimalFrom f n) ≤ f

@@ -18,8 +18,8 @@ use Rattle.bench.proofs.Demand3.{calls-are-steps}
 use Rattle.sent.specs.declared.Place.{Place}
 use Rattle.sent.specs.Places.{nowhere, placesOf}
 use Rattle.messages.specs.Rows.{sentAt, messageOf, sentOf, noSent}
-use Rattle.messages.proofs.Answers.{Gives}
-use Rattle.messages.proofs.Calls.{sent-by-call}
+use Rattle.sent_messages.proofs.Answers.{Gives}
+use Rattle.sent_messages.proofs.Calls.{sent-by-call}
 use Rattle.message_flits.proofs.Accepted.{LineAddress}
 use Rattle.lines.specs.Lines.{benchLine, callLine, messageLine}
 use Rattle.job_bytes.specs.Bytes.{bigAt}
@@ -27,7 +27,8 @@ use Rattle.job_format.specs.Job.{tilesOf, addressOf, memoryOf, callsOf}
 use Rattle.job_bytes.proofs.Numbers.{below-more}
 use Rattle.job_format.proofs.Calls.{accepted-job}
 use Rattle.jobs.specs.Run.{benchCall}
-use Rattle.job_lines.specs.Listing.{sentLines, answerLines, callLines, linesFrom, listingOf}
+use Rattle.answer_lines.specs.Answer.{sentLines, answerLines}
+use Rattle.job_lines.specs.Listing.{callLines, linesFrom, listingOf}
 use Rattle.whole_listing.specs.Rules.{messageLines, resultLines, stepLines, ruleListing, Bytes, Rules-statement}
 use Rattle.whole_listing.proofs.Carried.{AllTaken, call-taken, taken-flits}
 

@@ -18,7 +18,7 @@ use Rattle.job_check.specs.Check.{checkJob}
 use Rattle.job_format.specs.Job.{headerEnd, tilesOf, addressOf, memoryOf, callAt, callsFrom, callsOf, jobCallAt, callOf}
 use Rattle.job_format.proofs.Calls.{call-in, next-in, accepted-job}
 use Rattle.jobs.specs.Run.{benchCall}
-use Rattle.job_lines.specs.Pieces.{buffersAfter, placesAfter, AllPlaced}
+use Rattle.answer_lines.specs.Pieces.{buffersAfter, placesAfter, AllPlaced}
 use Rattle.job_lines.specs.Listing.{callLines, linesFrom, listingOf}
 use Rattle.whole_listing.specs.Whole.{walkLines, bytesOf, Listing-statement, Fitted-statement}
 

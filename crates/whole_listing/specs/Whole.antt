@@ -13,8 +13,9 @@ use Rattle.lines.specs.Lines.{benchLine, endLine}
 use Rattle.job_check.specs.Check.{checkJob, accepted}
 use Rattle.job_format.specs.Job.{headerEnd, tilesOf, addressOf, memoryOf, jobCallAt, callOf}
 use Rattle.jobs.specs.Run.{benchCall}
-use Rattle.job_lines.specs.Pieces.{AllPlaced}
-use Rattle.job_lines.specs.Listing.{answerLines, callLines, listingOf}
+use Rattle.answer_lines.specs.Pieces.{AllPlaced}
+use Rattle.answer_lines.specs.Answer.{answerLines}
+use Rattle.job_lines.specs.Listing.{callLines, listingOf}
 
 -- Call after call, read at a place of the job, made on the words l that the last one left: its lines, and the next place's. n calls were
 -- made before; f is at least as many as there can be.

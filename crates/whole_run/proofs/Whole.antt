@@ -24,8 +24,8 @@ use Rattle.whole_listing.specs.Whole.{bytesOf}
 use Rattle.whole_listing.specs.Rules.{ruleListing}
 use Rattle.whole_listing.proofs.Whole.{started}
 use Rattle.whole_listing.proofs.Rules.{eight, by-the-rules}
-use Rattle.run_lines.specs.declared.Run.{Run}
-use Rattle.run_lines.specs.Run.{most, Left, behind, paused, ended, callBytes, callWords, turnsFrom, turnsIn, acceptedPiece, firstPiece, nextPiece, runOf}
+use Rattle.run_parts.specs.declared.Run.{Run}
+use Rattle.run_parts.specs.Run.{most, Left, behind, paused, ended, callBytes, callWords, turnsFrom, turnsIn, acceptedPiece, firstPiece, nextPiece, runOf}
 use Rattle.whole_run.specs.Whole.{Printed, after, printedFrom, printed, lastFrom, wordsPrinted, allOf, Accepted-statement, Refused-statement, printout, Run-statement, Words-statement}
 
 not-both : false ≡ true → ⊥

@@ -15,7 +15,7 @@ use Rattle.job_format.specs.Job.{tilesOf, memoryOf, callsOf}
 use Rattle.jobs.specs.Run.{benchCall}
 use Rattle.whole_listing.specs.Whole.{bytesOf}
 use Rattle.whole_listing.specs.Rules.{ruleListing, Bytes}
-use Rattle.run_lines.specs.Run.{most, Left, firstPiece, nextPiece, runOf}
+use Rattle.run_parts.specs.Run.{most, Left, firstPiece, nextPiece, runOf}
 
 -- all that was put, and whether there is more
 pub record Printed : Type 0 where
