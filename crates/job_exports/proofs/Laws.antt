@@ -9,8 +9,9 @@ use Rattle.bench.specs.Runs.{answerTo, afterCall}
 use Rattle.job_format.specs.declared.JobCall.{JobCall}
 use Rattle.job_format.specs.Job.{callOf}
 use Rattle.jobs.specs.Run.{benchCall}
-use Rattle.job_lines.specs.Pieces.{AllPlaced, buffersAfter, placesAfter}
-use Rattle.job_lines.specs.Listing.{answerLines, callLines}
+use Rattle.answer_lines.specs.Pieces.{AllPlaced, buffersAfter, placesAfter}
+use Rattle.answer_lines.specs.Answer.{answerLines}
+use Rattle.job_lines.specs.Listing.{callLines}
 use Rattle.telling.specs.Told.{told}
 
 -- a job's call

@@ -2,8 +2,9 @@
 ghost use mathlib.Core.Path.{_≡_};
 ghost use mathlib.Core.List.{_∷_, []};
 ghost use Rattle.bench_words.specs.Calls.{stepOn, answerOf, wordsAfter};
-ghost use Rattle.job_format.specs.Job.{checkJob, jobCallAt};
-ghost use Rattle.job_lines.specs.Pieces.{buffersAfter, placesAfter};
+ghost use Rattle.job_check.specs.Check.{checkJob};
+ghost use Rattle.job_format.specs.Job.{jobCallAt};
+ghost use Rattle.answer_lines.specs.Pieces.{buffersAfter, placesAfter};
 ghost use Rattle.job_lines.specs.Listing.{callLines};
 ghost use Rattle.telling.specs.Told.{told, checkedWords};
 ghost use Rattle.job_exports.specs.Given.{callIn};

@@ -7,10 +7,13 @@ use native.Mathlib.Omega.{arith}
 use lib.Dec.{eqb, ltb, leb}
 use lib.ListN.{length}
 use borrow.Author.Tests.{lt-ltb, le-ltb, ltb-true, ltb-false, eqb-true, eqb-false, leb-true, leb-false, le-leb, lt-leb}
-use Rattle.job_format.specs.declared.Checked.{Checked}
-use Rattle.job_format.specs.Job.{tagAt, lengthAt, nextAt, isTag, valueLength, inPlace, goodValue, fieldRefusal, accepted, refused, checkEnd, checkFields, checkJob, Call, callAt, callsFrom, headerEnd, tilesOf, addressOf, callsOf, jobCallAt, callOf}
+use Rattle.job_check.specs.declared.Checked.{Checked}
+use Rattle.job_bytes.specs.Bytes.{tagAt, lengthAt, nextAt}
+use Rattle.job_fields.specs.Fields.{isTag, valueLength, inPlace, goodValue, fieldRefusal}
+use Rattle.job_check.specs.Check.{accepted, refused, checkEnd, checkFields, checkJob}
+use Rattle.job_format.specs.Job.{Call, callAt, callsFrom, headerEnd, tilesOf, addressOf, callsOf, jobCallAt, callOf}
 use Rattle.job_format.specs.Accepted.{Walk, done, step, Accepted, callsAt}
-use Rattle.job_format.proofs.Fields.{FieldPassed, passed, turns, fields-end, fields-step}
+use Rattle.job_check.proofs.Fields.{FieldPassed, passed, turns, fields-end, fields-step}
 
 -- ---- one call read inside the job
 pub call-in : (job : List ℕ) (at : ℕ) → at < length job → callOf (jobCallAt job at) ≡ callAt job at

@@ -3,7 +3,8 @@ use Prim.Native.Nat.{ℕ, _+_, _%_, _≤_, _<_}
 use mathlib.Core.Path.{_≡_}
 use mathlib.Core.List.{List, [], _∷_}
 use lib.ListN.{length}
-use Rattle.job_format.specs.Job.{valueLength, Call, headerEnd, tilesOf, addressOf, callsFrom, callsOf, jobCallAt, callOf}
+use Rattle.job_fields.specs.Fields.{valueLength}
+use Rattle.job_format.specs.Job.{Call, headerEnd, tilesOf, addressOf, callsFrom, callsOf, jobCallAt, callOf}
 
 -- From a place, call after call gives these calls and ends exactly at the job's end. Each has a call's tag and is as long as that says.
 pub data Walk (job : List ℕ) : ℕ → List Call → Type 0 where

@@ -1,92 +1,13 @@
--- Jobs (01, 'Jobs'): a list of bytes, read as fields. A field is a tag byte, a length of two bytes and a value of that many bytes.
--- A field is named by the place of its first byte. What stands past a job's end is read as 0.
-use Prim.Native.Nat.{ℕ, suc, _+_, _*_, _-_, _%_}
-use mathlib.Core.Bool.{Bool, cond, true, _&&_, _||_}
+-- What an accepted job holds (01, 'Jobs'): its header and its calls. How its bytes are read stands in job_bytes, specs/Bytes; the tests on a
+-- field in job_fields, specs/Fields; the whole check in job_check, specs/Check.
+use Prim.Native.Nat.{ℕ, suc, _+_, _*_}
+use mathlib.Core.Bool.{cond}
 use mathlib.Core.List.{List, [], _∷_}
-use lib.Dec.{eqb, ltb, leb}
-use lib.ListN.{length, getD}
-use Rattle.job_format.specs.declared.Checked.{Checked}
+use lib.Dec.{ltb}
+use lib.ListN.{length}
+use Rattle.job_bytes.specs.Bytes.{bigAt, tagAt, nextAt}
+use Rattle.job_fields.specs.Fields.{valueLength}
 use Rattle.job_format.specs.declared.JobCall.{JobCall}
-
--- the number that n bytes from a place on are, big-endian
-unfoldable pub bigAt : ℕ → List ℕ → ℕ → ℕ
-bigAt ℕ.zero job at = 0
-bigAt (suc n) job at = bigAt n job at * 256 + getD job (at + n) 0
-
--- the parts of the field at a place
-abbrev pub tagAt : List ℕ → ℕ → ℕ
-tagAt job at = getD job at 0
-
-abbrev pub lengthAt : List ℕ → ℕ → ℕ
-lengthAt job at = bigAt 2 job (at + 1)
-
-abbrev pub nextAt : List ℕ → ℕ → ℕ
-nextAt job at = at + 3 + lengthAt job at
-
--- 1 to 3 the header, 16 to 24 the calls
-unfoldable pub isTag : ℕ → Bool
-isTag t = (leb 1 t && leb t 3) || (leb 16 t && leb t 24)
-
--- how long the value of each tag is
-unfoldable pub valueLength : ℕ → ℕ
-valueLength t =
-    cond (eqb t 1) 1
-    (cond (eqb t 2) 6
-    (cond (eqb t 3) 64
-    (cond (eqb t 16) 2
-    (cond (eqb t 17) 10
-    (cond (eqb t 18) 1
-    (cond (eqb t 20) 1
-    (cond (eqb t 21) 1
-    0)))))))
-
--- the place of a field with k fields before it: the tags 1, 2, 3 in this order, then calls only
-unfoldable pub inPlace : ℕ → ℕ → Bool
-inPlace k t = cond (ltb k 3) (eqb t (k + 1)) (leb 16 t)
-
--- the value, which a tile count and a line address can have wrong: 1 to 64 tiles; low six bits 0
-unfoldable pub goodValue : List ℕ → ℕ → Bool
-goodValue job at =
-    cond (eqb (tagAt job at) 1) (leb 1 (bigAt 1 job (at + 3)) && leb (bigAt 1 job (at + 3)) 64)
-    (cond (eqb (tagAt job at) 2) (eqb (bigAt 6 job (at + 3) % 64) 0) true)
-
--- the refusal of a field by its tests, in their order; 0 if all hold
-unfoldable pub firstFailed : Bool → Bool → Bool → Bool → Bool → Bool → ℕ
-firstFailed head tag len whole place value = cond head (cond tag (cond len (cond whole (cond place (cond value 0 24) 23) 20) 22) 21) 20
-
-unfoldable pub fieldRefusal : List ℕ → ℕ → ℕ → ℕ
-fieldRefusal job at k =
-    firstFailed
-    (leb (at + 3) (length job))
-    (isTag (tagAt job at))
-    (eqb (lengthAt job at) (valueLength (tagAt job at)))
-    (leb (nextAt job at) (length job))
-    (inPlace k (tagAt job at))
-    (goodValue job at)
-
-abbrev pub accepted : Checked
-accepted = record { refusal = 0; offset = 0 }
-
-abbrev pub refused : ℕ → ℕ → Checked
-refused number at = record { refusal = number; offset = at }
-
--- the job ends at a place with k fields before it: a missing header field is placed at the job's end
-unfoldable pub checkEnd : ℕ → ℕ → Checked
-checkEnd at k = cond (ltb k 3) (refused 23 at) accepted
-
--- the fields from a place on, k before it; n is at least as many as there can be
-unfoldable pub checkFields : ℕ → List ℕ → ℕ → ℕ → Checked
-checkFields ℕ.zero job at k = checkEnd at k
-checkFields (suc n) job at k =
-    cond (ltb at (length job))
-    (cond (eqb (fieldRefusal job at k) 0) (checkFields n job (nextAt job at) (k + 1)) (refused (fieldRefusal job at k) at))
-    (checkEnd at k)
-
--- the whole job
-unfoldable pub checkJob : List ℕ → Checked
-checkJob job = cond (ltb 65536 (length job)) (refused 25 65536) (checkFields (length job) job 0 0)
-
--- ---- what an accepted job holds
 
 -- a call: its tag, and of tile, word and value those that the tag has, 0 for the others
 pub record Call : Type 0 where

@@ -1,4 +1,1 @@
-pub mod Pieces
 pub mod Listing
-pub mod Rules
-pub mod Whole

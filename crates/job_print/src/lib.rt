@@ -2,7 +2,7 @@
 ghost use mathlib.Core.Path.{_≡_};
 ghost use Prim.Native.Nat.{_≤_};
 ghost use lib.ListN.{length};
-ghost use Rattle.run_lines.specs.Whole.{wordsPrinted};
+ghost use Rattle.whole_run.specs.Whole.{wordsPrinted};
 use libc::STDOUT_FILENO;
 
 fn show(buf: &[u8], n: usize)

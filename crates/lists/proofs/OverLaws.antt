@@ -72,6 +72,10 @@ pub join : (l m n : List ℕ) (i j k : ℕ) (xs ys : List ℕ) → i ≤ length 
 join l m n i j k xs ys h p q =
     record { moved = omega (arith, p .moved, q .moved, length-append xs ys); wrote = then-over l m n i j xs ys h (p .moved) (p .wrote) (q .wrote) }
 
+-- two pieces of two pieces
+pub four-put : (l m n : List ℕ) (i j k : ℕ) (a b c d : List ℕ) → i ≤ length l → Put l m i j (a ++ b) → Put m n j k (c ++ d) → Put l n i k (a ++ (b ++ (c ++ d)))
+four-put l m n i j k a b c d h p q = subst (λ (vs : List ℕ). Put l n i k vs) (append-assoc a b (c ++ d)) (join l m n i j k (a ++ b) (c ++ d) h p q)
+
 -- put where it fits, and where it does not
 pub fits : (l m : List ℕ) (i j : ℕ) (vs : List ℕ) → i + length vs ≤ length l → Put l m i j vs → Placed l m i j vs
 unfolding bufferAfter placeAfter

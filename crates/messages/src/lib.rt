@@ -4,8 +4,7 @@ ghost use Prim.Native.Nat.{_≤_};
 ghost use lib.ListN.{length, getD};
 ghost use Rattle.codec.specs.Encode.{noRow};
 ghost use Rattle.sent.specs.Places.{placesOf};
-ghost use Rattle.messages.specs.Rows.{lastRow, rowFrom, ofTile, rowIn, messageOf};
-use words::Pair;
+ghost use Rattle.messages.specs.Rows.{rowFrom, ofTile, rowIn, messageOf};
 use words::Row;
 
 // A message that was sent: its queue (1 to 3 for NoC1 to NoC3 of the tile, 4 to memory, 5 from memory) and its row: type, word, state,
@@ -28,22 +27,18 @@ fn no_row() -> Row
     }
 }
 
-// The last message of a queue.
-fn last(q: Pair) -> Row
-    ensures { λ r. ⌜ r ≡ lastRow q ⌝ }
-{
-    let a = q.a;
-    let b = q.b;
-    if b.n0 == 0 { a } else { b }
-}
-
-// Of the queue that stands at a place.
+// The last message of the queue that stands at a place.
 fn row_from(w: &[u64], at: usize) -> Row
     requires { ⌜ at ≤ 10000 ⌝ }
     ensures { λ r. ⌜ r ≡ rowFrom (now (w .entry)) at ⌝ }
 {
     if at + 24 <= w.len() {
-        last(words::read_pair(w, at))
+        let second = w[at + 12];
+        if second == 0 {
+            words::read_row(w, at)
+        } else {
+            words::read_row(w, at + 12)
+        }
     } else {
         no_row()
     }

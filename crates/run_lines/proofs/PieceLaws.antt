@@ -8,51 +8,35 @@ use borrow.Author.Tests.{le-leb, lt-leb, lt-ltb, le-ltb, eq-eqb, ne-eqb}
 use lib.Dec.{ltb, leb}
 use lib.ListN.{length, length-append}
 use Rattle.lists.specs.Over.{over, Placed, Put}
-use Rattle.lists.proofs.OverLaws.{over-nil, over-over, placed-put}
+use Rattle.lists.proofs.OverLaws.{over-nil, over-over}
 use Rattle.bench_words.specs.Calls.{startOn, wordsStarted}
 use Rattle.bench.specs.Runs.{afterCall}
-use Rattle.listing.specs.Lines.{benchLine, endLine, refusedLine}
-use Rattle.listing.proofs.LineLaws.{bench-length, end-length, refused-length}
-use Rattle.job_format.specs.declared.Checked.{Checked}
+use Rattle.lines.specs.Lines.{benchLine, endLine, refusedLine}
+use Rattle.listing.proofs.BenchLaws.{bench-length}
+use Rattle.job_check.specs.declared.Checked.{Checked}
 use Rattle.job_format.specs.declared.JobCall.{JobCall}
-use Rattle.job_format.specs.Job.{checkJob, headerEnd, tilesOf, addressOf, memoryOf, callAt, nextAt, jobCallAt, callOf}
+use Rattle.job_bytes.specs.Bytes.{nextAt}
+use Rattle.job_check.specs.Check.{checkJob}
+use Rattle.job_format.specs.Job.{headerEnd, tilesOf, addressOf, memoryOf, callAt, jobCallAt, callOf}
 use Rattle.job_format.proofs.Calls.{call-in, next-in}
 use Rattle.jobs.specs.Run.{benchCall}
-use Rattle.job_lines.specs.Pieces.{AllPlaced}
+use Rattle.answer_lines.specs.Pieces.{AllPlaced}
 use Rattle.job_lines.specs.Listing.{callLines}
-use Rattle.job_lines.proofs.Room.{decimal-le, answer-le, room}
-use Rattle.run_lines.specs.declared.Run.{Run}
-use Rattle.run_lines.specs.Run.{most, Left, behind, paused, ended, callBytes, callWords, turnsFrom, acceptedPiece, firstPiece, nextPiece, runOf, Puts, callLeft}
+use Rattle.whole_listing.proofs.Room.{decimal-le, answer-le, room}
+use Rattle.run_parts.specs.declared.Run.{Run}
+use Rattle.run_parts.proofs.LineLaws.{placed-at}
+use Rattle.run_parts.specs.Run.{most, Left, behind, paused, ended, callBytes, callWords, turnsFrom, acceptedPiece, firstPiece, nextPiece, runOf, Puts, callLeft}
 
 -- ---- lengths
 
 pub bench-le : (tiles address : ℕ) → length (benchLine tiles address) ≤ 40
 bench-le tiles address = omega (arith, bench-length tiles address _ refl, decimal-le 20 tiles)
 
-pub end-le : (n : ℕ) → length (endLine n) ≤ 25
-end-le n = omega (arith, end-length n _ refl, decimal-le 20 n)
-
-pub refused-le : (number offset : ℕ) → length (refusedLine number offset) ≤ 57
-refused-le number offset = omega (arith, refused-length number offset _ _ refl refl, decimal-le 20 number, decimal-le 20 offset)
-
 pub call-le : (job : List ℕ) (line n at : ℕ) (l : List ℕ) → length (callBytes job line n at l) ≤ most
 unfolding callLines
 call-le job line n at l = answer-le line (n + 1) _ _
 
--- ---- one line, and the lines of one call
-
-placed-at : (b b′ : List ℕ) (p k : ℕ) (v : List ℕ) → p + length v ≤ length b → Placed b b′ p k v → Put b b′ p k v
-unfolding Rattle.lists.specs.Over.placeAfter
-placed-at b b′ p k v h x = placed-put b b′ p k v x (go (x .place))
-  where
-    go : k ≡ cond (leb (p + length v) (length b)) (p + length v) (length b + 1) → k ≤ length b
-    go e = omega (arith, e ∙ ap (λ (t : Bool). cond t (p + length v) (length b + 1)) (le-leb (p + length v) (length b) h))
-
-pub line-put : (b b′ : List ℕ) (p k : ℕ) (v : List ℕ) (a : Run) → p + length v ≤ length b → Placed b b′ p k v → a ≡ record { put = k; going = false; at = 0; calls = 0 } → Puts p b (ended v []) a [] b′
-unfolding runOf
-line-put b b′ p k v a h x e =
-    let q = placed-at b b′ p k v h x in
-    record { says = e ∙ ap (λ (z : ℕ). record { put = z; going = false; at = 0; calls = 0 }) (q .moved); leaves = refl; wrote = q .wrote; inside = omega (arith, ap (λ (z : Run). z .put) e, q .moved) }
+-- ---- the lines of one call
 
 pub call-put : (job : List ℕ) (line n at p k : ℕ) (l l′ b b′ : List ℕ) (c : JobCall) (a : Run) → at < length job → p + most ≤ length b
     → c ≡ jobCallAt job at → l′ ≡ afterCall (benchCall (callOf c)) l → AllPlaced b b′ p k (callLines line (n + 1) (benchCall (callOf c)) l)

@@ -8,7 +8,7 @@ use Rattle.bench_words.specs.declared.Answer.{Answer}
 use Rattle.flit_words.specs.declared.Header.{Header}
 use Rattle.flit_reading.specs.declared.Read.{Read}
 use Rattle.flit_writing.specs.declared.Written.{Written}
-use Rattle.job_format.specs.declared.Checked.{Checked}
+use Rattle.job_check.specs.declared.Checked.{Checked}
 
 -- the lent words l with the words vs at their start, where they have room for all of them; else as they were
 unfoldable pub told : List ℕ → List ℕ → List ℕ

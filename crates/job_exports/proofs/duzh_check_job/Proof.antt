@@ -1,4 +1,4 @@
-use Rattle.job_format.specs.declared.Checked.{Checked}
+use Rattle.job_check.specs.declared.Checked.{Checked}
 use Rattle.telling.specs.Told.{checkedWords}
 use Rattle.telling.proofs.Laws.{said}
 use borrow.Author.Needs.{needs}

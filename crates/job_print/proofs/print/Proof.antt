@@ -4,7 +4,7 @@ use mathlib.Core.List.{List}
 use native.Mathlib.Omega.{arith}
 use lib.ListN.{length}
 use borrow.Author.Needs.{needs}
-use Rattle.run_lines.proofs.Whole.{piecesLeft, next-less, Stands, stands-first, stands-more, stands-last}
+use Rattle.whole_run.proofs.Whole.{piecesLeft, next-less, Stands, stands-first, stands-more, stands-last}
 use Rattle.job_print.proofs.print.Statement.{statement}
 use Rattle.job_print.proofs.print.Tie as tie
 

@@ -2,7 +2,7 @@ use lib.ListN.{length}
 use Prim.Native.Nat.{_+_}
 use native.Mathlib.Omega.{arith}
 use Rattle.lists.proofs.OverLaws.{with-room, without-room, has-room}
-use Rattle.listing.proofs.LineLaws.{bench-length}
+use Rattle.listing.proofs.BenchLaws.{bench-length}
 use borrow.Author.Needs.{needs}
 use Rattle.listing.proofs.bench_line.Statement.{statement}
 use Rattle.listing.proofs.bench_line.Tie as tie

@@ -1,6 +1,6 @@
 use native.Mathlib.Omega.{arith}
 use Rattle.lists.proofs.OverLaws.{join}
-use Rattle.listing.proofs.Digits.{length-digits}
+use Rattle.lines.proofs.Digits.{length-digits}
 use borrow.Author.Needs.{needs}
 use Rattle.listing.proofs.put_address_end.Statement.{statement}
 use Rattle.listing.proofs.put_address_end.Tie as tie
@@ -9,7 +9,7 @@ put-byte-requires : tie.Need-put-byte-requires
 put-byte-requires c κs = omega (arith, length-digits 16 12 (c .before .before .before .before .before .before .args .address))
 
 returns : tie.Need-returns
-returns c = join _ _ _ _ _ _ _ _ (omega (arith, c .before .before .before .before .before .before .before .before .before .pre)) (c .before .before .before .before .before .before .put-digits .ensures) (c .before .before .put-byte .ensures)
+returns c = join _ _ _ _ _ _ _ _ (omega (arith, c .before .before .before .before .before .before .before .before .before .pre)) (c .before .before .before .before .before .before .put-hex .ensures) (c .before .before .put-byte .ensures)
 
 pub put-address-end-spec : {M : Type 1} → statement M
 put-address-end-spec =

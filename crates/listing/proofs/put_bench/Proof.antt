@@ -2,7 +2,7 @@ use native.Mathlib.Omega.{arith}
 use Rattle.lists.proofs.OverLaws.{join}
 use lib.ListN.{length-append}
 use mathlib.Core.List.{_∷_, []}
-use Rattle.listing.specs.Lines.{benchLine, decimal}
+use Rattle.lines.specs.Lines.{benchLine, decimal}
 use borrow.Author.Needs.{needs}
 use Rattle.listing.proofs.put_bench.Statement.{statement}
 use Rattle.listing.proofs.put_bench.Tie as tie

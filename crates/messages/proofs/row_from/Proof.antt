@@ -1,18 +1,34 @@
-use mathlib.Core.Path.{refl}
-use borrow.Author.Tests.{eq-eqb, ne-eqb, lt-ltb, le-ltb, le-leb, lt-leb}
-use Rattle.messages.specs.Rows.{rowFrom}
+use borrow.Author.Tests.{eq-eqb, ne-eqb, le-leb, lt-leb}
+use Rattle.messages.specs.Rows.{rowFrom, lastRow}
+use Rattle.words.specs.Blocks.{pairAt, rowAt}
 use borrow.Author.Needs.{needs}
 use Rattle.messages.proofs.row_from.Statement.{statement}
 use Rattle.messages.proofs.row_from.Tie as tie
 
 returns : tie.Need-returns
-unfolding rowFrom
-returns c = simp (c .last .ensures, c .before .read-pair .ensures, le-leb _ _ (c .before .before .if1 .taken))
+unfolding rowFrom lastRow pairAt rowAt
+returns c = simp (c .read-row .ensures, eq-eqb _ _ (c .before .if2 .taken), le-leb _ _ (c .before .before .before .if1 .taken))
 
 returns-2 : tie.Need-returns-2
+unfolding rowFrom lastRow pairAt rowAt
+returns-2 c = simp (c .read-row2 .ensures, ne-eqb _ _ (c .before .if2 .left), le-leb _ _ (c .before .before .before .if1 .taken))
+
+returns-3 : tie.Need-returns-3
 unfolding rowFrom
-returns-2 c = simp (c .no-row .ensures, lt-leb _ _ (c .before .if1 .left))
+returns-3 c = simp (c .no-row .ensures, lt-leb _ _ (c .before .if1 .left))
 
 pub row-from-spec : {M : Type 1} → statement M
 row-from-spec =
-    tie.close (tie.spec (λ c. search needs) (λ c κs. search needs) (λ c κs. search needs) (λ c κs. search needs) returns returns-2)
+    tie.close
+    (tie.spec
+    (λ c. search needs)
+    (λ c. search needs)
+    (λ c. search needs)
+    (λ c. search needs)
+    (λ c κs. search needs)
+    (λ c. search needs)
+    (λ c κs. search needs)
+    (λ c κs. search needs)
+    returns
+    returns-2
+    returns-3)

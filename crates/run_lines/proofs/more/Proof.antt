@@ -1,6 +1,6 @@
 use mathlib.Core.Path.{ap}
 use native.Mathlib.Omega.{arith}
-use Rattle.run_lines.specs.declared.Run.{Run}
+use Rattle.run_parts.specs.declared.Run.{Run}
 use Rattle.run_lines.proofs.PieceLaws.{next-short, next-ended, next-none, next-turns}
 use borrow.Author.Needs.{needs}
 use Rattle.run_lines.proofs.more.Statement.{statement}
@@ -8,20 +8,20 @@ use Rattle.run_lines.proofs.more.Tie as tie
 
 turns-requires : tie.Need-turns-requires
 turns-requires c κs =
-    (omega arith, omega (arith, ap (λ (z : Run). z .calls) (c .state2 .ensures), ap (λ (z : Run). z .at) (c .state2 .ensures)), ap (λ (z : Run). z .going) (c .state2 .ensures), omega (arith, ap (λ (z : Run). z .put) (c .state2 .ensures)))
+    (omega (arith, c .before .before .before .limit .ensures, c .before .before .before .before .before .before .before .before .if1 .left), omega (arith, ap (λ (z : Run). z .calls) (c .resume .ensures), ap (λ (z : Run). z .at) (c .resume .ensures)), ap (λ (z : Run). z .going) (c .resume .ensures), omega (arith, ap (λ (z : Run). z .put) (c .resume .ensures)))
 
 returns : tie.Need-returns
 returns c = next-short _ _ _ _ _ (c .before .if1 .taken) (c .state .ensures)
 
 returns-2 : tie.Need-returns-2
 returns-2 c =
-    next-turns _ _ _ _ _ _ _ _ _ _ (c .before .before .before .before .before .before .before .before .before .before .before .before .if1 .left) (c .before .before .before .before .before .before .before .before .before .before .before .if2 .taken) (omega arith) (c .before .before .before .before .before .before .before .before .line-address .ensures) (omega arith) (c .before .before .before .before .before .state2 .ensures) (c .before .before .before .before .turns .ensures)
+    next-turns _ _ _ _ _ _ _ _ _ _ (c .before .before .before .before .before .before .before .before .before .before .before .before .before .if1 .left) (c .before .before .before .before .before .before .before .before .before .before .before .before .if2 .taken) (omega arith) (c .before .before .before .before .before .before .before .before .before .line-address .ensures) (c .before .before .before .before .before .before .before .before .limit .ensures) (c .before .before .before .before .before .resume .ensures) (c .before .before .before .before .turns .ensures)
 
 returns-3 : tie.Need-returns-3
-returns-3 c = next-none _ _ _ _ _ (c .before .before .before .before .if1 .left) (c .before .before .before .if2 .taken) (omega arith) (c .state3 .ensures)
+returns-3 c = next-none _ _ _ _ _ (c .before .before .before .before .if1 .left) (c .before .before .before .if2 .taken) (omega arith) (c .state2 .ensures)
 
 returns-4 : tie.Need-returns-4
-returns-4 c = next-ended _ _ _ _ _ (c .before .before .if1 .left) (c .before .if2 .left) (c .state4 .ensures)
+returns-4 c = next-ended _ _ _ _ _ (c .before .before .if1 .left) (c .before .if2 .left) (c .state3 .ensures)
 
 pub more-spec : {M : Type 1} → statement M
 more-spec =
@@ -29,7 +29,7 @@ more-spec =
     (tie.spec
     (λ c κs. search needs)
     (λ c κs. search needs)
-    (λ c. search needs)
+    (λ c κs. search needs)
     (λ c κs. search needs)
     turns-requires
     (λ c κs. search needs)

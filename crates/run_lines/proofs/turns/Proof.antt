@@ -2,8 +2,8 @@ use Prim.Native.Nat.{_-_}
 use mathlib.Core.Path.{_≡_, refl, ap, _∙_}
 use native.Mathlib.Omega.{arith}
 use lib.ListN.{length}
-use Rattle.run_lines.specs.declared.Run.{Run}
-use Rattle.run_lines.specs.Run.{runOf}
+use Rattle.run_parts.specs.declared.Run.{Run}
+use Rattle.run_parts.specs.Run.{runOf}
 use Rattle.run_lines.proofs.PieceLaws.{Rest, rest-start, rest-step, rest-end, rest-pause}
 use Rattle.run_lines.proofs.turns.Statement.{statement}
 use Rattle.run_lines.proofs.turns.Tie as tie

@@ -1,0 +1,30 @@
+use lib.ListN.{length}
+use Prim.Native.Nat.{_+_}
+use native.Mathlib.Omega.{arith}
+use Rattle.lists.proofs.OverLaws.{with-room, without-room, has-room}
+use Rattle.number_lines.proofs.NumberLaws.{end-length}
+use borrow.Author.Needs.{needs}
+use Rattle.number_lines.proofs.end_line.Statement.{statement}
+use Rattle.number_lines.proofs.end_line.Tie as tie
+
+put-end-requires : tie.Need-put-end-requires
+put-end-requires c κs = omega (arith, has-room (length (c .before .before .before .before .before .args .buf .now)) (c .before .before .before .before .before .args .at) (c .before .before .before .width .result + 5) (c .before .before .room .ensures) (c .before .if1 .taken), c .before .before .before .width .ensures .0)
+
+returns : tie.Need-returns
+returns c = with-room _ _ _ _ _ _ (end-length _ _ (c .before .before .before .before .before .before .width .ensures .0)) (c .before .before .before .before .before .room .ensures) (c .before .before .before .before .if1 .taken) (c .before .before .put-end .ensures)
+
+returns-2 : tie.Need-returns-2
+returns-2 c = without-room _ _ _ _ (end-length _ _ (c .before .before .width .ensures .0)) (c .before .room .ensures) (c .if1 .left)
+
+pub end-line-spec : {M : Type 1} → statement M
+end-line-spec =
+    tie.close
+    (tie.spec
+    (λ c κs. search needs)
+    (λ c. search needs)
+    (λ c κs. search needs)
+    put-end-requires
+    (λ c. search needs)
+    (λ c. search needs)
+    returns
+    returns-2)

@@ -1,0 +1,4 @@
+pub mod Whole
+pub mod Carried
+pub mod Rules
+pub mod Room
