@@ -1,25 +1,13 @@
-// Jobs: the check of a whole job, and its calls made one by one with their lines of the listing.
+// The calls of a job made one by one, with their lines of the listing.
 ghost use mathlib.Core.Path.{_≡_};
 ghost use mathlib.Core.List.{_∷_, []};
 ghost use Rattle.bench_words.specs.Calls.{stepOn, answerOf, wordsAfter};
-ghost use Rattle.job_check.specs.Check.{checkJob};
 ghost use Rattle.job_format.specs.Job.{jobCallAt};
 ghost use Rattle.answer_lines.specs.Pieces.{buffersAfter, placesAfter};
 ghost use Rattle.job_lines.specs.Listing.{callLines};
-ghost use Rattle.telling.specs.Told.{told, checkedWords};
+ghost use Rattle.telling.specs.Told.{told};
 ghost use Rattle.job_exports.specs.Given.{callIn};
-use telling::tell_checked;
 use telling::tell_two;
-
-// Checks a whole job. Tells the refusal number and the offset of the bad field.
-#[no_mangle]
-pub extern "C" fn duzh_check_job(job: &[u8], out: &mut [u64]) -> u64
-    ensures refusal { λ r. ⌜ r ≡ checkJob (now (job .entry)) .refusal ⌝ }
-    ensures told { λ _. ⌜ now (out .exit) ≡ told (now (out .entry)) (checkedWords (checkJob (now (job .entry)))) ⌝ }
-{
-    let a = job_format::check_job(job);
-    tell_checked(out, a)
-}
 
 // Makes the call that stands at a place of a job (80 for the first) on the bench in the words, and writes its lines of the listing, as
 // call number `number`, at place p of the text. Returns the call's refusal number. Tells the place behind the lines, which is past the

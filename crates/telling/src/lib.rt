@@ -3,9 +3,8 @@ ghost use mathlib.Core.Path.{_≡_};
 ghost use Prim.Native.Nat.{_≤_};
 ghost use mathlib.Core.List.{_∷_, [], _++_};
 ghost use lib.ListN.{length, drop};
-ghost use Rattle.telling.specs.Told.{told, answerWords, writtenWords, checkedWords, readWords};
+ghost use Rattle.telling.specs.Told.{told, answerWords, writtenWords, checkedWords};
 use bench_words::Answer;
-use flit_reading::Read;
 use flit_writing::Written;
 use job_format::Checked;
 
@@ -60,39 +59,5 @@ pub fn tell_checked(out: &mut [u64], a: Checked) -> u64
     ensures told { λ _. ⌜ now (out .exit) ≡ told (now (out .entry)) (checkedWords a) ⌝ }
 {
     tell_two(out, a.refusal, a.offset);
-    a.refusal
-}
-
-pub fn tell_read(out: &mut [u64], a: Read) -> u64
-    ensures refusal { λ r. ⌜ r ≡ a .refusal ⌝ }
-    ensures told { λ _. ⌜ now (out .exit) ≡ told (now (out .entry)) (readWords a) ⌝ }
-{
-    let h = a.header;
-    let to = h.to;
-    let from = h.from;
-    let vs = [
-        a.refusal,
-        a.used as u64,
-        a.start as u64,
-        h.opcode,
-        h.tag,
-        to.chip,
-        to.x,
-        to.y,
-        to.port,
-        h.state,
-        h.miss,
-        h.address54,
-        h.last,
-        h.address,
-        h.vector,
-        h.icache,
-        h.size,
-        from.chip,
-        from.x,
-        from.y,
-        from.port,
-    ];
-    tell(out, &vs);
     a.refusal
 }

@@ -1,9 +1,9 @@
 use mathlib.Core.Path.{refl}
 use borrow.Author.Tests.{eq-eqb, ne-eqb}
-use Rattle.flit_exports.specs.Given.{writtenFrom, bufferFrom}
+use Rattle.input_exports.specs.Given.{writtenFrom, bufferFrom}
 use borrow.Author.Needs.{needs}
-use Rattle.flit_exports.proofs.write_from.Statement.{statement}
-use Rattle.flit_exports.proofs.write_from.Tie as tie
+use Rattle.input_exports.proofs.write_from.Statement.{statement}
+use Rattle.input_exports.proofs.write_from.Tie as tie
 
 returns : tie.Need-returns
 unfolding writtenFrom bufferFrom

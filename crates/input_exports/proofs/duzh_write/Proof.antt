@@ -2,8 +2,8 @@ use Rattle.flit_writing.specs.declared.Written.{Written}
 use Rattle.telling.specs.Told.{writtenWords}
 use Rattle.telling.proofs.Laws.{done}
 use borrow.Author.Needs.{needs}
-use Rattle.flit_exports.proofs.duzh_write.Statement.{statement}
-use Rattle.flit_exports.proofs.duzh_write.Tie as tie
+use Rattle.input_exports.proofs.duzh_write.Statement.{statement}
+use Rattle.input_exports.proofs.duzh_write.Tie as tie
 
 returns : tie.Need-returns
 returns c = done (λ (a : Written). a .refusal) writtenWords (c .before .before .before .before .before .before .before .before .before .before .before .before .args .out .now) (c .before .before .before .before .before .before .write-from .ensures) (c .before .before .tell-written .ensures)

@@ -2,8 +2,8 @@ use Rattle.job_check.specs.declared.Checked.{Checked}
 use Rattle.telling.specs.Told.{checkedWords}
 use Rattle.telling.proofs.Laws.{said}
 use borrow.Author.Needs.{needs}
-use Rattle.job_exports.proofs.duzh_check_job.Statement.{statement}
-use Rattle.job_exports.proofs.duzh_check_job.Tie as tie
+use Rattle.input_exports.proofs.duzh_check_job.Statement.{statement}
+use Rattle.input_exports.proofs.duzh_check_job.Tie as tie
 
 returns : tie.Need-returns
 returns c = said (λ (a : Checked). a .refusal) checkedWords (c .before .before .before .before .before .before .before .args .out .now) (c .before .before .before .before .check-job .ensures) (c .before .before .tell-checked .ensures)

@@ -8,7 +8,7 @@ use lib.Seq.{drop-cons}
 use Rattle.words.proofs.Over.{reads}
 use Rattle.flit_words.specs.declared.Header.{Header}
 use Rattle.telling.specs.Told.{fieldWords}
-use Rattle.flit_exports.specs.Given.{fieldsFrom}
+use Rattle.input_exports.specs.Given.{fieldsFrom}
 
 -- the fields that a read told are those fields again, and the words that a write was given are those words again
 pub fields-again : (h : Header) → fieldsFrom (fieldWords h) ≡ h

@@ -2,8 +2,8 @@ use Rattle.flit_reading.specs.declared.Read.{Read}
 use Rattle.telling.specs.Told.{readWords}
 use Rattle.telling.proofs.Laws.{said}
 use borrow.Author.Needs.{needs}
-use Rattle.flit_exports.proofs.duzh_read.Statement.{statement}
-use Rattle.flit_exports.proofs.duzh_read.Tie as tie
+use Rattle.input_exports.proofs.duzh_read.Statement.{statement}
+use Rattle.input_exports.proofs.duzh_read.Tie as tie
 
 returns : tie.Need-returns
 returns c = said (λ (a : Read). a .refusal) readWords (c .before .before .before .before .before .before .before .args .out .now) (c .before .before .before .before .read-at .ensures) (c .before .before .tell-read .ensures)

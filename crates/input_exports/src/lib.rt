@@ -1,15 +1,18 @@
-// Messages in flits, read and written. The 18 fields of a message are, in this order: type, tag, destination (chip, x, y, port), state,
-// L2 miss, address_5_4, last, address, vector, icache bit, size, source (chip, x, y, port).
+// What a caller brings, for programs in other languages: flits read, messages written, jobs checked. The 18 fields of a message are, in this
+// order: type, tag, destination (chip, x, y, port), state, L2 miss, address_5_4, last, address, vector, icache bit, size, source (chip, x, y,
+// port).
 ghost use mathlib.Core.Path.{_≡_};
 ghost use lib.ListN.{length, drop};
 ghost use Rattle.flit_reading.specs.Reading.{readOf};
 ghost use Rattle.flit_writing.specs.Writing.{writtenOf, bufferOf};
-ghost use Rattle.telling.specs.Told.{told, readWords, writtenWords};
-ghost use Rattle.flit_exports.specs.Given.{fieldsFrom, writtenFrom, bufferFrom};
+ghost use Rattle.job_check.specs.Check.{checkJob};
+ghost use Rattle.telling.specs.Told.{told, readWords, writtenWords, checkedWords};
+ghost use Rattle.input_exports.specs.Given.{fieldsFrom, writtenFrom, bufferFrom};
 use flit_words::Header;
 use flit_words::Node;
 use flits::Written;
-use telling::tell_read;
+use read_telling::tell_read;
+use telling::tell_checked;
 use telling::tell_written;
 
 // The front message from a place of the flits on. Tells refusal, flits used, where the data start (counted from the place), the fields.
@@ -90,4 +93,14 @@ pub extern "C" fn duzh_write(
 {
     let a = write_from(buffer, at, fields, words);
     tell_written(out, a)
+}
+
+// Checks a whole job. Tells the refusal number and the offset of the bad field.
+#[no_mangle]
+pub extern "C" fn duzh_check_job(job: &[u8], out: &mut [u64]) -> u64
+    ensures refusal { λ r. ⌜ r ≡ checkJob (now (job .entry)) .refusal ⌝ }
+    ensures told { λ _. ⌜ now (out .exit) ≡ told (now (out .entry)) (checkedWords (checkJob (now (job .entry)))) ⌝ }
+{
+    let a = job_format::check_job(job);
+    tell_checked(out, a)
 }
