@@ -23,8 +23,8 @@ fn no_pair() -> Pair
     ensures { λ r. ⌜ r ≡ noPair ⌝ }
 {
     Pair {
-        a: tile_steps::bare(0, 0, 0, 0),
-        b: tile_steps::bare(0, 0, 0, 0),
+        a: queue_words::bare(0, 0, 0, 0),
+        b: queue_words::bare(0, 0, 0, 0),
     }
 }
 
@@ -35,8 +35,8 @@ fn fresh_block(n: u64, memory: [u64; 8]) -> HomeBlock
     HomeBlock {
         tiles: n,
         phase: 0,
-        line: tile_steps::bare(0, 0, 0, 0),
-        control: tile_steps::row(n - 1, 0, 0, 0, memory),
+        line: queue_words::bare(0, 0, 0, 0),
+        control: queue_words::row(n - 1, 0, 0, 0, memory),
         out: no_pair(),
         back: no_pair(),
     }
@@ -45,8 +45,8 @@ fn fresh_block(n: u64, memory: [u64; 8]) -> HomeBlock
 fn fresh_tile_block() -> TileBlock
     ensures { λ r. ⌜ r ≡ freshTileBlock ⌝ }
 {
-    tile_steps::headed(
-        tile_steps::bare(0, 0, 0, 0),
+    tile_parts::headed(
+        queue_words::bare(0, 0, 0, 0),
         no_pair(),
         no_pair(),
         no_pair(),

@@ -9,7 +9,7 @@ ghost use Rattle.words.specs.Blocks.{rowAt, tileAt, homeAt};
 ghost use Rattle.codec.specs.Encode.{encHead, directoryNumber, directoryTiles, encLine, requester};
 ghost use Rattle.codec.specs.Decode.{decCache, decWaiting, decDirectory, decLine};
 ghost use Rattle.codec.specs.Same.{sameRow, tileOk, homeOk};
-ghost use Rattle.word_tests.specs.Parts.{noneAt, queuesOk, bare, cacheOk, waitingOk, ownedOk, sharedOk, heldOk, phaseOk};
+ghost use Rattle.word_tests.specs.Parts.{noneAt, queuesOk, memoryOk, cacheOk, waitingOk, ownedOk, sharedOk, heldOk, phaseOk};
 
 // A tile's head: state and words.
 fn cache_ok(w: &[u64], at: usize) -> bool
@@ -119,42 +119,44 @@ fn shared_ok(w: &[u64], n: u64) -> bool
     (1 == w[2]) & (word_tests::flag_ok(w[3]) & ((1 == w[4]) & word_tests::in_mask(w[5], n)))
 }
 
-// The line in phase p.
-fn held_ok(w: &[u64], n: u64, p: u64) -> bool
+// The phase p, with the requester, the tiles owed and the line that it asks for.
+fn state_ok(w: &[u64], n: u64, p: u64) -> bool
     requires { ⌜ (26 ≤ length (now w)) × (0 < n) ⌝ }
-    ensures { λ r. ⌜ r ≡ heldOk n p (rowAt (now (w .entry)) 2) (rowAt (now (w .entry)) 14) ⌝ }
-{
-    match p {
-        3 => owned_ok(w, n),
-        4 => owned_ok(w, n),
-        5 => owned_ok(w, n),
-        6 => shared_ok(w, n),
-        7 => shared_ok(w, n),
-        0 => line_ok(w, n),
-        1 => line_ok(w, n),
-        2 => line_ok(w, n),
-        _ => line_ok(w, n),
-    }
-}
-
-// The phase, and the requester and the tiles owed in it.
-fn phase_ok(w: &[u64], n: u64, p: u64) -> bool
-    requires { ⌜ (26 ≤ length (now w)) × (0 < n) ⌝ }
-    ensures { λ r. ⌜ r ≡ phaseOk n p (rowAt (now (w .entry)) 2) (rowAt (now (w .entry)) 14) ⌝ }
+    ensures { λ r. ⌜ r ≡ (phaseOk n p (rowAt (now (w .entry)) 2) (rowAt (now (w .entry)) 14) && heldOk n p (rowAt (now (w .entry)) 2) (rowAt (now (w .entry)) 14)) ⌝ }
 {
     let by = w[16];
     let owed = w[17];
     match p {
-        0 => (0 == by) & (0 == owed),
-        1 => word_tests::below(by, n) & (0 == owed),
-        2 => word_tests::below(by, n) & (0 == owed),
-        3 => word_tests::below(by, n) & (0 == owed),
-        4 => word_tests::below(by, n) & (0 == owed),
-        5 => (0 == by) & (0 == owed),
-        6 => word_tests::below(by, n) & word_tests::in_mask(owed, n),
-        7 => (0 == by) & word_tests::in_mask(owed, n),
-        8 => (0 == by) & (0 == owed),
+        0 => (0 == by) & (0 == owed) & line_ok(w, n),
+        1 => word_tests::below(by, n) & (0 == owed) & line_ok(w, n),
+        2 => word_tests::below(by, n) & (0 == owed) & line_ok(w, n),
+        3 => word_tests::below(by, n) & (0 == owed) & owned_ok(w, n),
+        4 => word_tests::below(by, n) & (0 == owed) & owned_ok(w, n),
+        5 => (0 == by) & (0 == owed) & owned_ok(w, n),
+        6 => word_tests::below(by, n) & word_tests::in_mask(owed, n) & shared_ok(w, n),
+        7 => (0 == by) & word_tests::in_mask(owed, n) & shared_ok(w, n),
+        8 => (0 == by) & (0 == owed) & line_ok(w, n),
         _ => false,
+    }
+}
+
+// Both queues of memory, empty.
+fn still(w: &[u64]) -> bool
+    requires { ⌜ 74 ≤ length (now w) ⌝ }
+    ensures { λ r. ⌜ r ≡ (noneAt (now (w .entry)) 26 && noneAt (now (w .entry)) 50) ⌝ }
+{
+    (word_tests::or24(w, 26) | word_tests::or24(w, 50)) == 0
+}
+
+// The queues to and from memory; mostly both are empty.
+fn memory_ok(w: &[u64]) -> bool
+    requires { ⌜ 74 ≤ length (now w) ⌝ }
+    ensures { λ r. ⌜ r ≡ memoryOk (now (w .entry)) ⌝ }
+{
+    if (w[26] | w[50]) == 0 {
+        still(w)
+    } else {
+        queue_tests::out_ok(w, 26) & queue_tests::back_ok(w, 50)
     }
 }
 
@@ -164,11 +166,9 @@ pub fn home_ok_at(w: &[u64]) -> bool
 {
     let n = w[0];
     let p = w[1];
-    let phase = phase_ok(w, n, p);
-    let line = held_ok(w, n, p);
+    let state = state_ok(w, n, p);
     let last = word_tests::below(w[14], n);
     let marks = word_tests::in_mask(w[15], n);
-    let out = queue_tests::out_ok(w, 26);
-    let back = queue_tests::back_ok(w, 50);
-    phase & (line & (last & (marks & (out & back))))
+    let memory = memory_ok(w);
+    state & (last & (marks & memory))
 }

@@ -1,12 +1,12 @@
 -- The calls at the home, on words: what the code does is document 01's step. Assumes nothing.
-use Prim.Native.Nat.{ℕ, suc, _+_, _-_, _*_, _%_, _^_, _≤_, _<_}
+use Prim.Native.Nat.{ℕ, suc, _+_, _*_, _%_, _^_, _≤_, _<_}
 use mathlib.Core.Path.{_≡_, refl, ap, sym, _∙_, subst}
-use mathlib.Core.Bool.{Bool, cond, true, false, _&&_, false≢true}
-use mathlib.Core.List.{List, [], _∷_, _++_}
+use mathlib.Core.Bool.{Bool, cond, true, false, _&&_}
+use mathlib.Core.List.{List}
 use mathlib.Core.Option.{Option, some, none}
 use native.Mathlib.Omega.{arith}
 use native.Mathlib.Nat.{mod-lt}
-use lib.Dec.{eqb, ltb}
+use lib.Dec.{eqb}
 use lib.ListN.{length, getD, set, drop, length-set}
 use lib.Seq.{getD-set-same, getD-set-other}
 use borrow.Author.Tests.{lt-ltb, le-ltb, eqb-true, eqb-false, ne-eqb}
@@ -16,19 +16,23 @@ use Rattle.words.specs.declared.Pair.{Pair}
 use Rattle.words.specs.declared.TileBlock.{TileBlock}
 use Rattle.words.specs.declared.HomeBlock.{HomeBlock}
 use Rattle.words.specs.Blocks as blocks
-use Rattle.words.specs.Blocks.{over, homeAt, homeWords, pairWords, tileWords, HomeFull, TileFull}
+use Rattle.words.specs.Blocks.{over, homeAt, tileWords, TileFull}
 use Rattle.words.proofs.Reading.{tile-full}
-use Rattle.protocol.specs.Parts.{Words, Queue, Request, Forward, Reply, ToMemory, FromMemory, Tile, tileOf, Line, Home, idle, awaitingLoad, awaitingOwner, awaitingAcks, awaitingStore, reading, writing, request, eviction, clearForStore, clearForEviction, Bench, benchOf, Call, taking, fromTile, memoryStep, memoryAck, homeEviction, Result, refused, accepted}
+use Rattle.protocol.specs.Parts.{Words, Queue, ToMemory, FromMemory, Tile, tileOf, Line, Home, idle, awaitingLoad, awaitingOwner, awaitingAcks, awaitingStore, reading, writing, request, eviction, clearForStore, clearForEviction, benchOf, Call, taking, fromTile, memoryStep, memoryAck, homeEviction, refused}
 use Rattle.protocol.specs.Bench as rules
 use Rattle.protocol.specs.Bench.{freshTile, tileAt, step, front, rest, noc1, noc3, popNoc1, popNoc3, fromTileOn, takingOn, takeFrom, arbitrate}
-use Rattle.codec.specs.Encode.{row, zeros, encRequest, encForward, encReply, encQueue, encTile, encHome, encode, phaseNumber}
+use Rattle.codec.specs.Encode.{row, zeros, encRequest, encForward, encReply, encQueue, encTile, encHome}
 use Rattle.codec.specs.Decode.{decTiles, decoded, benchFrom, decHome, decLine, decQueue, decToMemory, decFromMemory, isSet}
-use Rattle.codec.proofs.Canonical.{homeFrom, home-canonical}
-use Rattle.tile_steps.specs.Steps.{room, pop, headed}
+use Rattle.codec.proofs.Canonical.{home-canonical}
+use Rattle.queue_words.specs.Queues.{room, pop}
+use Rattle.tile_parts.specs.Steps.{headed}
 use Rattle.tile_steps.proofs.Rules.{rest-queue}
 use Rattle.home_parts.specs.declared.HomeStep.{HomeStep}
+use Rattle.home_parts.specs.declared.HomeNumbers.{HomeNumbers}
+use Rattle.home_parts.specs.declared.HomeMove.{HomeMove}
+use Rattle.home_parts.specs.Moves as moves
 use Rattle.home_parts.specs.Numbers as numbers
-use Rattle.home_steps.specs.Rules.{HomeResult, spread, encStep, encFront, Sends, HomeIn, LineIn, takenHome, acceptedHome, steppedHome, ackedHome, evictedHome}
+use Rattle.home_steps.specs.Rules.{HomeResult, spread, encStep, encFront, Sends, HomeIn, takenHome, acceptedHome, steppedHome, ackedHome, evictedHome}
 use Rattle.home_steps.proofs.Steps.{first-row, take-is, accept-is, step-is, ack-is, evict-is}
 use Rattle.home_steps.proofs.Spread.{take-spread, accept-spread, step-spread, ack-spread, evict-spread}
 use Rattle.home_steps.proofs.Sends.{take-sends, accept-sends, step-sends, ack-sends, evict-sends}
@@ -39,14 +43,15 @@ use Rattle.bench_words.specs.declared.Survey.{Survey}
 use Rattle.bench_words.specs.Survey.{surveyOf}
 use Rattle.bench_words.proofs.Guard.{survey-ok}
 use Rattle.bench_words.proofs.Ready.{survey-ready}
-use Rattle.posts.specs.Post.{rooms, Committed}
-use Rattle.home_calls.specs.Taken.{homeStepOn, refusalOf, choice, chosen}
+use Rattle.posts.specs.Post.{rooms, popped, answering, Committed}
+use Rattle.home_calls.specs.Taken.{homeStepOn, refusalOf, choice, chosen, acceptAt}
 use Rattle.bench_words.proofs.Laid.{Laid, laid-tile, write-tile}
-use Rattle.bench_words.proofs.Decoded.{Found, found, count, laid-out}
+use Rattle.bench_words.proofs.Decoded.{found, count, laid-out}
 use Rattle.bench_words.proofs.Meets.{Meets}
 use Rattle.posts.proofs.Posted.{allRoom, rooms-tiles}
 use Rattle.posts.proofs.Commits.{committed, is-stopped}
 use Rattle.posts.proofs.Places.{pop-full, over-noc1, over-noc3}
+use Rattle.home_calls.proofs.Moved.{as-accept, as-take}
 use Rattle.home_calls.proofs.Searched.{optionOf, searched, choice-below, ready-chosen}
 
 -- a tile without the front of its NoC1, or of its NoC3
@@ -146,15 +151,19 @@ module _ (l : List ℕ) (h : wellFormed l ≡ true) where
   abbrev B : HomeBlock
   B = encHome n home last marks memory out back
 
-  result-is : (c : ℕ) → homeStepOn c H ≡ encStep n B (result c)
+  -- the block that a refusal would give back
+  abbrev before : ℕ → HomeBlock
+  before c = cond (eqb c 0) B (cond (eqb c 1) (encHome n home last marks memory out (rest back)) B)
+
+  result-is : (c : ℕ) → homeStepOn c H ≡ encStep n (before c) (result c)
   unfolding result homeStepOn
   result-is c = ap (homeStepOn c) block ∙ go (eqb c 0) (eqb c 1)
     where
       go : (a b : Bool) → cond a (numbers.memoryStep B) (cond b (numbers.memoryAck B) (numbers.evictLine B))
-          ≡ encStep n B (cond a (steppedHome home last marks memory out back) (cond b (ackedHome home last marks memory out back) (evictedHome n home last marks memory out back)))
+          ≡ encStep n (cond a B (cond b (encHome n home last marks memory out (rest back)) B)) (cond a (steppedHome home last marks memory out back) (cond b (ackedHome home last marks memory out back) (evictedHome n home last marks memory out back)))
       go true b = step-is n home last marks memory out back
       go false true = ack-is n home last marks memory out back
-      go false false = evict-is n (found l h .most) home in-range last marks memory out back
+      go false false = evict-is n (found l h .most) last marks memory out back home in-range
 
   result-step : (c : ℕ) → step (homeCall c) (decoded l) ≡ spread 0 (result c) ts
   unfolding result homeCall step
@@ -168,16 +177,22 @@ module _ (l : List ℕ) (h : wellFormed l ≡ true) where
 
   pub home-done : (c : ℕ) (s : HomeStep) → s ≡ homeStepOn c H → (a : Answer) (m : List ℕ) → Committed l l n 0 s a m → Meets l (stepOn l (homeCall c)) a m
   home-done c s is a m made =
-      committed l l (homeCall c) 0 s a m h (result c) B ts tiles-counted laid (result-sends c) (is ∙ result-is c) (result-step c) (room-as (s .to)) made
+      committed l l (homeCall c) 0 s a m h (result c) (before c) H ts tiles-counted laid (result-sends c) (is ∙ result-is c) (result-step c) (room-as (s .to)) made
 
-  refused-early : (c : ℕ) → (refusalOf c H ≡ 0 → ⊥) → homeStepOn c H ≡ numbers.stop H (refusalOf c H)
-  unfolding homeStepOn refusalOf numbers.memoryStep numbers.memoryAck numbers.evictLine
+  -- the block of a step that is refused before any move
+  abbrev kept : ℕ → HomeBlock
+  kept c = cond (eqb c 0) H (cond (eqb c 1) (numbers.acked H) H)
+
+  refused-early : (c : ℕ) → (refusalOf c H ≡ 0 → ⊥) → homeStepOn c H ≡ numbers.stop (kept c) (refusalOf c H)
+  unfolding homeStepOn refusalOf numbers.stop numbers.memoryStep numbers.memoryAck numbers.evictLine numbers.acked numbers.applied numbers.lined numbers.numbered numbers.worded numbers.wordsFrom numbers.outAfter numbers.forwardOf numbers.numbersIn moves.stop moves.memoryAck moves.evictLine
   refused-early c = go (eqb c 0) (eqb c 1) (eqb (H .out .a .n0) 0) (eqb (H .back .a .n0) 0) (eqb (H .phase) 0) (eqb (H .line .n0) 0)
     where
       go : (a b d e f g : Bool) → (_≡_ {A = ℕ} (cond a (cond d 7 0) (cond b (cond e 7 0) (cond f (cond g 5 0) 6))) 0 → ⊥) →
           cond a (cond d (numbers.stop H 7) (cond (eqb (H .out .a .n0) 19) (numbers.answer H (H .control .words) (row 24 0 0 0 (H .control .words))) (numbers.answer H (H .out .a .words) (row 25 0 0 0 zeros))))
-          (cond b (cond e (numbers.stop H 7) (cond (eqb (H .back .a .n0) 24) (numbers.fill H) (numbers.drop H))) (cond f (cond g (numbers.stop H 5) (numbers.evictValid H)) (numbers.stop H 6)))
-          ≡ numbers.stop H (cond a (cond d 7 0) (cond b (cond e 7 0) (cond f (cond g 5 0) 6)))
+          (cond b
+          (numbers.applied (numbers.acked H) (H .back .a .words) (cond e (moves.stop (numbers.numbersIn H) 7) (cond (eqb (H .back .a .n0) 24) (moves.fill (numbers.numbersIn H)) (moves.drop (numbers.numbersIn H)))))
+          (numbers.applied H zeros (cond f (cond g (moves.stop (numbers.numbersIn H) 5) (moves.evictValid (numbers.numbersIn H))) (moves.stop (numbers.numbersIn H) 6))))
+          ≡ numbers.stop (cond a H (cond b (numbers.acked H) H)) (cond a (cond d 7 0) (cond b (cond e 7 0) (cond f (cond g 5 0) 6)))
       go true b true e f g w = refl
       go true b false e f g w = absurd (w refl)
       go false true d true f g w = refl
@@ -186,12 +201,12 @@ module _ (l : List ℕ) (h : wellFormed l ≡ true) where
       go false false d e true false w = absurd (w refl)
       go false false d e false g w = refl
 
-  -- refused before the block is read
+  -- refused before the block is looked at
   pub home-early : (c k : ℕ) → k ≡ refusalOf c H → (k ≡ 0 → ⊥) → Meets l (stepOn l (homeCall c)) (refusal k) l
   unfolding numbers.stop
   home-early c k e wrong =
-      let z : homeStepOn c H ≡ numbers.stop H k = refused-early c (λ q. wrong (e ∙ q)) ∙ ap (numbers.stop H) (sym e) in
-      home-done c (numbers.stop H k) (sym z) (refusal k) l (is-stopped l l n 0 (numbers.stop H k) (refusal k) l wrong refl refl)
+      let z : homeStepOn c H ≡ numbers.stop (kept c) k = refused-early c (λ q. wrong (e ∙ q)) ∙ ap (numbers.stop (kept c)) (sym e) in
+      home-done c (numbers.stop (kept c) k) (sym z) (refusal k) l (is-stopped l l n 0 (numbers.stop (kept c) k) (refusal k) l wrong refl refl)
 
   -- a tile without the front of a queue
   pop1 : (x : Tile) → popped1 (encTile x) ≡ encTile (popNoc1 x)
@@ -303,16 +318,16 @@ module _ (l : List ℕ) (h : wellFormed l ≡ true) where
     laid-with y b k e f w =
         subst (λ (z : List ℕ). Laid z H (set ts t y) r) (sym (w ∙ ap (λ (z : TileBlock). over l place (tileWords z)) e)) (write-tile l H ts r laid t y inside (subst TileFull e f))
 
-    laid-1 : Laid (over l (place + 12) (pairWords (pop (blocks.pairAt l (place + 12))))) H (set ts t (popNoc1 x)) r
-    unfolding popped1 blocks.tileAt
+    laid-1 : Laid (popped l (place + 12)) H (set ts t (popNoc1 x)) r
+    unfolding popped popped1 blocks.tileAt
     laid-1 =
         let f = tile-full l place whole in
         let g = pop-full (blocks.pairAt l (place + 12)) (f .noc1-full) in
         laid-with (popNoc1 x) (popped1 (blocks.tileAt l place)) _ (ap popped1 tile-block ∙ pop1 x) (record { head-full = f .head-full; noc1-full = g; noc2-full = f .noc2-full; noc3-full = f .noc3-full })
         (sym (over-noc1 l place whole (pop (blocks.pairAt l (place + 12))) g))
 
-    laid-3 : Laid (over l (place + 60) (pairWords (pop (blocks.pairAt l (place + 60))))) H (set ts t (popNoc3 x)) r
-    unfolding popped3 blocks.tileAt
+    laid-3 : Laid (popped l (place + 60)) H (set ts t (popNoc3 x)) r
+    unfolding popped popped3 blocks.tileAt
     laid-3 =
         let f = tile-full l place whole in
         let g = pop-full (blocks.pairAt l (place + 60)) (f .noc3-full) in
@@ -334,19 +349,19 @@ module _ (l : List ℕ) (h : wellFormed l ≡ true) where
 
     -- delivery from tile t
     pub from-done : (s : HomeStep) → s ≡ numbers.accept H t (blocks.rowAt l (place + 60)) → (a : Answer) (m : List ℕ) →
-        Committed l (over l (place + 60) (pairWords (pop (blocks.pairAt l (place + 60))))) n 0 s a m → Meets l (stepOn l (fromTile t)) a m
+        Committed l (popped l (place + 60)) n 0 s a m → Meets l (stepOn l (fromTile t)) a m
     from-done s is a m made =
         let y : Tile = popNoc3 x in
         let numbers-are : s ≡ encStep n B (acceptedHome t (front (noc3 x)) home last marks memory out back) =
         is ∙ ap (numbers.accept H t) (row-3 ∙ front3 x) ∙ ap (λ (z : HomeBlock). numbers.accept z t (encFront encReply (front (noc3 x)))) block
         ∙ accept-is n t (found l h .most) below (front (noc3 x)) home in-range last marks memory out back in
         let by-step : step (fromTile t) (decoded l) ≡ spread 0 (acceptedHome t (front (noc3 x)) home last marks memory out back) (set ts t y) = from-step ∙ accept-spread t (front (noc3 x)) home last marks memory out back (set ts t y) in
-        committed l _ (fromTile t) 0 s a m h (acceptedHome t (front (noc3 x)) home last marks memory out back) B (set ts t y) (length-set ts t y ∙ tiles-counted) laid-3
+        committed l _ (fromTile t) 0 s a m h (acceptedHome t (front (noc3 x)) home last marks memory out back) B H (set ts t y) (length-set ts t y ∙ tiles-counted) laid-3
         (accept-sends n t (front (noc3 x)) home in-range last marks memory out back) numbers-are by-step (room-as (s .to) ∙ sym (room-with y (same2-3 x) (s .to) n 0)) made
 
     -- 7: nothing on its NoC3
     pub from-early : getD l (place + 60) 0 ≡ 0 → Meets l (stepOn l (fromTile t)) (refusal 7) l
-    unfolding numbers.accept numbers.stop blocks.rowAt
+    unfolding numbers.stop numbers.accept numbers.applied numbers.lined numbers.numbered numbers.worded numbers.wordsFrom numbers.outAfter numbers.forwardOf numbers.numbersIn moves.stop moves.accept blocks.rowAt
     from-early z =
         let e : numbers.stop H 7 ≡ numbers.accept H t (blocks.rowAt l (place + 60)) = rw z refl in
         from-done (numbers.stop H 7) e (refusal 7) l (is-stopped l _ n 0 (numbers.stop H 7) (refusal 7) l (λ q. omega arith) refl refl)
@@ -368,7 +383,7 @@ module _ (l : List ℕ) (h : wellFormed l ≡ true) where
       take-step = ap (step taking) (read-as ∙ ap (λ (z : Home). benchOf z last marks memory out back ts) home-idle) ∙ ap (λ (o : Option ℕ). takeFrom o line marks memory out back ts) (found-here t below chosen)
 
       pub take-done : (s : HomeStep) → s ≡ numbers.take H t (blocks.rowAt l (place + 12)) → (a : Answer) (m : List ℕ) →
-          Committed l (over l (place + 12) (pairWords (pop (blocks.pairAt l (place + 12))))) n t s a m → Meets l (stepOn l taking) a m
+          Committed l (popped l (place + 12)) n t s a m → Meets l (stepOn l taking) a m
       take-done s is a m made =
           let y : Tile = popNoc1 x in
           let numbers-are : s ≡ encStep n (encHome n (idle line) last marks memory out back) (takenHome n t (front (noc1 x)) line marks memory out back) =
@@ -377,72 +392,45 @@ module _ (l : List ℕ) (h : wellFormed l ≡ true) where
           let cnt : length (set ts t y) ≡ n = length-set ts t y ∙ tiles-counted in
           let by-step : step taking (decoded l) ≡ spread t (takenHome n t (front (noc1 x)) line marks memory out back) (set ts t y) =
           take-step ∙ take-spread t (front (noc1 x)) line marks memory out back (set ts t y) ∙ ap (λ (z : ℕ). spread t (takenHome z t (front (noc1 x)) line marks memory out back) (set ts t y)) cnt in
-          committed l _ taking t s a m h (takenHome n t (front (noc1 x)) line marks memory out back) (encHome n (idle line) last marks memory out back) (set ts t y) cnt laid-1
+          committed l _ taking t s a m h (takenHome n t (front (noc1 x)) line marks memory out back) (encHome n (idle line) last marks memory out back) H (set ts t y) cnt laid-1
           (take-sends n t below (front (noc1 x)) line (line-in n (H .line) some-tile) marks memory out back) numbers-are by-step (room-as (s .to) ∙ sym (room-with y (same2-1 x) (s .to) n 0)) made
 
 -- what the code's survey tells of the words
 pub formed : (l : List ℕ) (s : Survey) (b : Bool) → s ≡ surveyOf l → s .ok ≡ b → wellFormed l ≡ b
 formed l s b e h = sym (survey-ok l) ∙ sym (ap (λ (z : Survey). z .ok) e) ∙ h
 
--- the same, as the code has them: with the blocks that it read
-module _ (l : List ℕ) (h : wellFormed l ≡ true) (hb : HomeBlock) (eh : hb ≡ homeAt l) where
-  pub last-small : hb .control .n0 < getD l 0 0
-  last-small = rw eh (last-below l h)
-
-  module _ (t : ℕ) (mr : Row) (s : HomeStep) (a : Answer) (m : List ℕ) where
-    pub from-call : t < getD l 0 0 → mr ≡ blocks.rowAt l (74 + 84 * t + 60) → s ≡ numbers.accept hb t mr →
-        Committed l (over l (74 + 84 * t + 60) (pairWords (pop (blocks.pairAt l (74 + 84 * t + 60))))) (getD l 0 0) 0 s a m → Meets l (stepOn l (fromTile t)) a m
-    from-call below em is made = from-done l h t below s (is ∙ ap (numbers.accept hb t) em ∙ ap (λ (z : HomeBlock). numbers.accept z t (blocks.rowAt l (74 + 84 * t + 60))) eh) a m made
-
-    pub take-call : hb .phase ≡ 0 → t ≡ choice l (hb .control .n1) (hb .control .n0) (getD l 0 0) → t < 64 → mr ≡ blocks.rowAt l (74 + 84 * t + 12) → s ≡ numbers.take hb t mr →
-        Committed l (over l (74 + 84 * t + 12) (pairWords (pop (blocks.pairAt l (74 + 84 * t + 12))))) (getD l 0 0) t s a m → Meets l (stepOn l taking) a m
-    take-call z e q em is made =
-        let e′ : t ≡ choice l (homeAt l .control .n1) (homeAt l .control .n0) (getD l 0 0) = e ∙ ap (λ (y : HomeBlock). choice l (y .control .n1) (y .control .n0) (getD l 0 0)) eh in
-        let below : t < getD l 0 0 = subst (λ (y : ℕ). y < getD l 0 0) (sym e′) (chosen-below l h (subst (λ (y : ℕ). y < 64) e′ q)) in
-        take-done l h t below (sym (ap (λ (y : HomeBlock). y .phase) eh) ∙ z) e′ s (is ∙ ap (numbers.take hb t) em ∙ ap (λ (y : HomeBlock). numbers.take y t (blocks.rowAt l (74 + 84 * t + 12))) eh) a m made
-
-  -- the tile that the code chooses, by the survey s
-  pub chosen-by : (s : Survey) → s ≡ surveyOf l → (t : ℕ) → t ≡ chosen (s .ready) (hb .control .n0) → t ≡ choice l (hb .control .n1) (hb .control .n0) (getD l 0 0)
-  chosen-by s es t e =
-      e ∙ ap (λ (z : Survey). chosen (z .ready) (hb .control .n0)) es ∙ ap (λ (z : ℕ). chosen z (hb .control .n0)) (survey-ready l h)
-      ∙ ready-chosen l (homeAt l .control .n1) (getD l 0 0) (hb .control .n0) (found l h .most) last-small ∙ ap (λ (z : HomeBlock). choice l (z .control .n1) (hb .control .n0) (getD l 0 0)) (sym eh)
-
-  pub chosen-small : (t : ℕ) → t ≡ choice l (hb .control .n1) (hb .control .n0) (getD l 0 0) → t < 64 → t < getD l 0 0
-  chosen-small t e q =
-      let e′ : t ≡ choice l (homeAt l .control .n1) (homeAt l .control .n0) (getD l 0 0) = e ∙ ap (λ (y : HomeBlock). choice l (y .control .n1) (y .control .n0) (getD l 0 0)) eh in
-      subst (λ (y : ℕ). y < getD l 0 0) (sym e′) (chosen-below l h (subst (λ (y : ℕ). y < 64) e′ q))
-
-  pub nobody-call : hb .phase ≡ 0 → (t : ℕ) → t ≡ choice l (hb .control .n1) (hb .control .n0) (getD l 0 0) → 64 ≤ t → Meets l (stepOn l taking) (refusal 7) l
-  nobody-call z t e q =
-      let e′ : t ≡ choice l (homeAt l .control .n1) (homeAt l .control .n0) (getD l 0 0) = e ∙ ap (λ (y : HomeBlock). choice l (y .control .n1) (y .control .n0) (getD l 0 0)) eh in
-      none-taken l h (sym (ap (λ (y : HomeBlock). y .phase) eh) ∙ z) (subst (λ (y : ℕ). 64 ≤ y) e′ q)
-
-  pub busy-call : (hb .phase ≡ 0 → ⊥) → Meets l (stepOn l taking) (refusal 6) l
-  busy-call wrong = not-idle l h (λ z. wrong (ap (λ (y : HomeBlock). y .phase) eh ∙ z))
-
--- the same by the words of the phase and of the tile taken last, before the block is read
+-- the same, as the code has them: with the numbers that it read
 module _ (l : List ℕ) (h : wellFormed l ≡ true) where
   pub last-there : getD l 14 0 < getD l 0 0
   unfolding homeAt blocks.rowAt
-  last-there = last-small l h (homeAt l) refl
+  last-there = last-below l h
 
   pub busy-there : (getD l 1 0 ≡ 0 → ⊥) → Meets l (stepOn l taking) (refusal 6) l
   unfolding homeAt
-  busy-there wrong = busy-call l h (homeAt l) refl wrong
+  busy-there wrong = not-idle l h wrong
 
+  pub from-call : (q : HomeMove) (t : ℕ) (a : Answer) (m : List ℕ) → t < getD l 0 0 → q ≡ acceptAt l t (74 + 84 * t + 60) →
+      Committed l (popped l (74 + 84 * t + 60)) (getD l 0 0) 0 (answering l (74 + 84 * t + 60) q) a m → Meets l (stepOn l (fromTile t)) a m
+  from-call q t a m below is made = from-done l h t below (answering l (74 + 84 * t + 60) q) (as-accept l (found l h .long) (74 + 84 * t + 60) t q (omega arith) is) a m made
+
+  -- the tile that the code chooses, by the survey s
   module _ (s : Survey) (es : s ≡ surveyOf l) (t : ℕ) (e : t ≡ chosen (s .ready) (getD l 14 0)) where
     chosen-there : t ≡ choice l (homeAt l .control .n1) (homeAt l .control .n0) (getD l 0 0)
     unfolding homeAt blocks.rowAt
-    chosen-there = chosen-by l h (homeAt l) refl s es t e
+    chosen-there =
+        e ∙ ap (λ (z : Survey). chosen (z .ready) (getD l 14 0)) es ∙ ap (λ (z : ℕ). chosen z (getD l 14 0)) (survey-ready l h)
+        ∙ ready-chosen l (homeAt l .control .n1) (getD l 0 0) (getD l 14 0) (found l h .most) last-there
 
     pub small-there : t < 64 → t < getD l 0 0
-    small-there q = chosen-small l h (homeAt l) refl t chosen-there q
+    small-there q = subst (λ (y : ℕ). y < getD l 0 0) (sym chosen-there) (chosen-below l h (subst (λ (y : ℕ). y < 64) chosen-there q))
 
     pub nobody-there : getD l 1 0 ≡ 0 → 64 ≤ t → Meets l (stepOn l taking) (refusal 7) l
     unfolding homeAt
-    nobody-there z q = nobody-call l h (homeAt l) refl z t chosen-there q
+    nobody-there z q = none-taken l h z (subst (λ (y : ℕ). 64 ≤ y) chosen-there q)
 
-    pub take-there : (hb : HomeBlock) → hb ≡ homeAt l → (mr : Row) (st : HomeStep) (a : Answer) (m : List ℕ) → getD l 1 0 ≡ 0 → t < 64 → mr ≡ blocks.rowAt l (74 + 84 * t + 12) → st ≡ numbers.take hb t mr →
-        Committed l (over l (74 + 84 * t + 12) (pairWords (pop (blocks.pairAt l (74 + 84 * t + 12))))) (getD l 0 0) t st a m → Meets l (stepOn l taking) a m
+    pub take-there : (x : HomeNumbers) → x ≡ numbers.numbersIn (homeAt l) → (q : HomeMove) (a : Answer) (m : List ℕ) → getD l 1 0 ≡ 0 → t < 64 → q ≡ moves.take x t (getD l (74 + 84 * t + 12) 0) →
+        Committed l (popped l (74 + 84 * t + 12)) (getD l 0 0) t (answering l (74 + 84 * t + 12) q) a m → Meets l (stepOn l taking) a m
     unfolding homeAt
-    take-there hb eh mr st a m z q em is made = take-call l h (homeAt l) refl t mr st a m z chosen-there q em (is ∙ ap (λ (y : HomeBlock). numbers.take y t mr) eh) made
+    take-there x ex q a m z b is made =
+        let w = is ∙ ap (λ (y : HomeNumbers). moves.take y t (getD l (74 + 84 * t + 12) 0)) ex in
+        take-done l h t (small-there b) z chosen-there (answering l (74 + 84 * t + 12) q) (as-take l (found l h .long) (74 + 84 * t + 12) t q (omega arith) w) a m made

@@ -1,3 +1,3 @@
-pub mod Keeps
+pub mod Moved
 pub mod Searched
 pub mod HomeCalls

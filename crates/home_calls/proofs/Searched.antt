@@ -1,12 +1,12 @@
 -- The round robin's search on the words finds the tile that the rules take. Assumes nothing.
 use Prim.Native.Nat.{ℕ, suc, _+_, _-_, _*_, _≤_, _<_}
-use mathlib.Core.Path.{_≡_, refl, ap, sym, _∙_, subst}
+use mathlib.Core.Path.{_≡_, refl, ap, sym, _∙_}
 use mathlib.Core.Bool.{Bool, cond, true, false}
 use mathlib.Core.List.{List, [], _∷_, _++_}
 use mathlib.Core.Option.{Option, some, none}
 use native.Mathlib.Omega.{arith}
 use native.Mathlib.Numerals.{add-one}
-use lib.Dec.{eqb, ltb}
+use lib.Dec.{ltb}
 use lib.ListN.{length, getD}
 use borrow.Author.Tests.{lt-ltb, ltb-true, ltb-false}
 use Rattle.bits.specs.Mask.{has}
@@ -14,10 +14,10 @@ use Rattle.bits.proofs.MaskLaws.{has-none}
 use Rattle.words.specs.declared.TileBlock.{TileBlock}
 use Rattle.words.specs.declared.HomeBlock.{HomeBlock}
 use Rattle.words.specs.Blocks as blocks
-use Rattle.protocol.specs.Parts.{Queue, empty, one, two, Request, loadReq, storeReq, wbGuardReq, Tile, tileOf}
+use Rattle.protocol.specs.Parts.{empty, one, two, loadReq, storeReq, wbGuardReq, Tile, tileOf}
 use Rattle.protocol.specs.Home.{range}
 use Rattle.protocol.specs.Bench.{tileAt, eligible, firstOf, circle, arbitrate}
-use Rattle.codec.specs.Encode.{noRow, row, encRequest, encQueue, encTile}
+use Rattle.codec.specs.Encode.{encRequest, encQueue, encTile}
 use Rattle.bench_words.specs.Survey.{mayTake, canTake, readyFrom}
 use Rattle.bench_words.proofs.Ready.{ready-has, ready-past}
 use Rattle.find_first.specs.Next.{firstIn, next}

@@ -6,8 +6,12 @@ use mathlib.Core.List.{List}
 use lib.Dec.{eqb, ltb}
 use Rattle.find_first.specs.Next.{next}
 use Rattle.words.specs.declared.HomeBlock.{HomeBlock}
+use lib.ListN.{getD}
+use Rattle.words.specs.Blocks.{homeAt}
+use Rattle.home_parts.specs.declared.HomeMove.{HomeMove}
 use Rattle.home_parts.specs.declared.HomeStep.{HomeStep}
-use Rattle.home_parts.specs.Numbers.{memoryStep, memoryAck, evictLine}
+use Rattle.home_parts.specs.Moves as moves
+use Rattle.home_parts.specs.Numbers.{numbersIn, memoryStep, memoryAck, evictLine}
 use Rattle.bench_words.specs.Survey.{canTake}
 
 -- the first of n tiles from tile i on that may be taken; 64 for none
@@ -26,6 +30,10 @@ chosen ready last = cond (ltb (next ready (last + 1)) 64) (next ready (last + 1)
 -- the calls at the home alone, by number: 0 memory step, 1 memory ack, else home eviction
 unfoldable pub homeStepOn : ℕ → HomeBlock → HomeStep
 homeStepOn c x = cond (eqb c 0) (memoryStep x) (cond (eqb c 1) (memoryAck x) (evictLine x))
+
+-- the move for the message at place i, from tile t
+unfoldable pub acceptAt : List ℕ → ℕ → ℕ → HomeMove
+acceptAt l t i = moves.accept (numbersIn (homeAt l)) t (getD l i 0) (getD l (i + 2) 0) (getD l (i + 3) 0)
 
 -- what is refused by one or two words of the block: 7 for an empty queue, 6 and 5 for an eviction; 0 for nothing
 unfoldable pub refusalOf : ℕ → HomeBlock → ℕ

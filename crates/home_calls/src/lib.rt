@@ -1,14 +1,14 @@
 // The calls at the home: taking, delivery from a tile, memory step, memory ack, home eviction.
 ghost use mathlib.Core.Path.{_≡_};
-ghost use Prim.Native.Nat.{_<_, _≤_};
+ghost use Prim.Native.Nat.{_+_, _<_, _≤_};
 ghost use lib.ListN.{length};
 ghost use Rattle.words.specs.Blocks.{homeAt};
 ghost use Rattle.protocol.specs.Parts.{taking, fromTile, memoryStep, memoryAck, homeEviction};
-ghost use Rattle.bench_words.specs.Calls.{stepOn, answerOf, wordsAfter, homeCall};
-ghost use Rattle.home_calls.specs.Taken.{chosen, homeStepOn, refusalOf};
+ghost use Rattle.bench_words.specs.Calls.{need, stepOn, answerOf, wordsAfter, homeCall};
+ghost use Rattle.posts.specs.Post.{Committed};
+ghost use Rattle.home_calls.specs.Taken.{chosen, homeStepOn, refusalOf, acceptAt};
 use bench_words::Answer;
-use home_steps::HomeStep;
-use words::HomeBlock;
+use home_steps::HomeMove;
 
 // Round robin among the tiles that may be taken: the first beyond the last taken, else the first of all; 64 for none.
 fn choose(ready: u64, last: u64) -> u64
@@ -20,13 +20,23 @@ fn choose(ready: u64, last: u64) -> u64
     if a < 64 { a } else { b }
 }
 
-fn home_step(c: u64, x: HomeBlock) -> HomeStep
-    ensures { λ r. ⌜ r ≡ homeStepOn c x ⌝ }
+// The steps at the home alone: 0 memory step, 1 memory ack, else home eviction.
+fn home_step(w: &mut [u64], n: u64, c: u64) -> Answer
+    requires { ⌜ (need n ≤ length (now w)) × (n ≤ 64) ⌝ }
+    ensures { λ r. ⌜ Committed (now (w .entry)) (now (w .entry)) n 0 (homeStepOn c (homeAt (now (w .entry)))) r (now (w .exit)) ⌝ }
 {
     match c {
-        0 => home_steps::memory_step(x),
-        1 => home_steps::memory_ack(x),
-        _ => home_steps::evict_line(x),
+        0 => posts::memory_step(w, n),
+        1 => {
+            let x = home_words::numbers_in(w);
+            let m = home_steps::memory_ack(x, w[50]);
+            posts::commit_with(w, n, 0, m, 50)
+        }
+        _ => {
+            let x = home_words::numbers_in(w);
+            let m = home_steps::evict_line(x);
+            posts::commit(w, n, 0, m)
+        }
     }
 }
 
@@ -58,9 +68,7 @@ fn at_home(w: &mut [u64], c: u64) -> Answer
         let n = w[0];
         let no = refusal_of(w, c);
         if no == 0 {
-            let x = words::read_home(w);
-            let s = home_step(c, x);
-            posts::commit(w, n, 0, s)
+            home_step(w, n, c)
         } else {
             bench_words::refused(no)
         }
@@ -90,6 +98,15 @@ pub fn home_eviction(w: &mut [u64]) -> Answer
     at_home(w, 2)
 }
 
+// The home's move for the message at place `front`, from tile t.
+fn accept_at(w: &[u64], t: u64, front: usize) -> HomeMove
+    requires { ⌜ (74 ≤ length (now w)) × (front + 12 ≤ length (now w)) ⌝ }
+    ensures { λ r. ⌜ r ≡ acceptAt (now (w .entry)) t front ⌝ }
+{
+    let x = home_words::numbers_in(w);
+    home_steps::accept(x, t, w[front], w[front + 2], w[front + 3])
+}
+
 // Delivery from tile t, of the front message of its NoC3 queue.
 pub fn from_tile(w: &mut [u64], t: u64) -> Answer
     ensures answer { λ r. ⌜ r ≡ answerOf (stepOn (now (w .entry)) (fromTile t)) ⌝ }
@@ -99,14 +116,12 @@ pub fn from_tile(w: &mut [u64], t: u64) -> Answer
     if ok {
         let n = w[0];
         if t < n {
-            let at = 74 + 84 * (t as usize);
-            if w[at + 60] == 0 {
+            let front = 74 + 84 * (t as usize) + 60;
+            if w[front] == 0 {
                 bench_words::refused(7)
             } else {
-                let h = words::read_home(w);
-                let m = words::read_row(w, at + 60);
-                let s = home_steps::accept(h, t, m);
-                posts::commit_with(w, n, 0, s, at + 60)
+                let m = accept_at(w, t, front);
+                posts::commit_with(w, n, 0, m, front)
             }
         } else {
             bench_words::refused(2)
@@ -127,11 +142,10 @@ pub fn taking(w: &mut [u64]) -> Answer
         if w[1] == 0 {
             let t = choose(s.ready, w[14]);
             if t < 64 {
-                let at = 74 + 84 * (t as usize);
-                let h = words::read_home(w);
-                let m = words::read_row(w, at + 12);
-                let done = home_steps::take(h, t, m);
-                posts::commit_with(w, n, t, done, at + 12)
+                let front = 74 + 84 * (t as usize) + 12;
+                let x = home_words::numbers_in(w);
+                let m = home_steps::take(x, t, w[front]);
+                posts::commit_with(w, n, t, m, front)
             } else {
                 bench_words::refused(7)
             }

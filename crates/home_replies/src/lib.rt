@@ -1,32 +1,23 @@
 // The home accepts what a tile's NoC3 brings: a write-back, or an ack.
 ghost use mathlib.Core.Path.{_≡_};
-ghost use Rattle.home_parts.specs.Numbers.{keep, keepIdle, keepAsked, keepUnmarked, writeBack, ackDirty, ackWords, sharedNow, loadAck, ownedNow, leavesNow, storeAck, cleared, oneLess, owedAck, invAck, accept};
-use home_parts::HomeStep;
-use words::HomeBlock;
-use words::Row;
+ghost use Rattle.home_parts.specs.Moves.{keep, keepIdle, keepAsked, keepUnmarked, writeBack, ackDirty, ackSource, sharedNow, loadAck, ownedNow, leavesNow, storeAck, cleared, oneLess, owedAck, invAck, accept};
+use home_parts::HomeMove;
+use home_parts::HomeNumbers;
 
 // A write-back: the words stored, dirty and the tile's mark set.
-fn keep(x: HomeBlock, t: u64, dir: u64, tiles: u64, words: [u64; 8]) -> HomeStep
-    ensures { λ s. ⌜ s ≡ keep x t dir tiles words ⌝ }
+fn keep(x: HomeNumbers, t: u64, dir: u64, tiles: u64) -> HomeMove
+    ensures { λ s. ⌜ s ≡ keep x t dir tiles ⌝ }
 {
-    let c = x.control;
-    let y = home_parts::set_home(
-        x,
-        x.phase,
-        home_parts::row(1, 1, dir, tiles, words),
-        c.n2,
-        c.n3,
-    );
-    home_parts::quiet(home_parts::set_taken(y, c.n0, bits::add(c.n1, t)))
+    let y = home_parts::set_home(x, x.phase, 1, 1, dir, tiles, x.requester, x.owed);
+    home_parts::quiet(home_parts::set_taken(y, x.last, bits::add(x.marks, t)), 2)
 }
 
-fn keep_idle(x: HomeBlock, t: u64, words: [u64; 8]) -> HomeStep
-    ensures { λ s. ⌜ s ≡ keepIdle x t words ⌝ }
+fn keep_idle(x: HomeNumbers, t: u64) -> HomeMove
+    ensures { λ s. ⌜ s ≡ keepIdle x t ⌝ }
 {
-    let l = x.line;
-    if l.n2 == 2 {
-        if l.n3 == t {
-            keep(x, t, 0, 0, words)
+    if x.directory == 2 {
+        if x.tiles == t {
+            keep(x, t, 0, 0)
         } else {
             home_parts::stop(x, 8)
         }
@@ -35,78 +26,70 @@ fn keep_idle(x: HomeBlock, t: u64, words: [u64; 8]) -> HomeStep
     }
 }
 
-fn keep_asked(x: HomeBlock, t: u64, words: [u64; 8]) -> HomeStep
-    ensures { λ s. ⌜ s ≡ keepAsked x t words ⌝ }
+fn keep_asked(x: HomeNumbers, t: u64) -> HomeMove
+    ensures { λ s. ⌜ s ≡ keepAsked x t ⌝ }
 {
-    let l = x.line;
-    if l.n3 == t {
-        keep(x, t, 2, l.n3, words)
+    if x.tiles == t {
+        keep(x, t, 2, x.tiles)
     } else {
         home_parts::stop(x, 8)
     }
 }
 
-fn keep_unmarked(x: HomeBlock, t: u64, words: [u64; 8]) -> HomeStep
-    ensures { λ s. ⌜ s ≡ keepUnmarked x t words ⌝ }
+fn keep_unmarked(x: HomeNumbers, t: u64) -> HomeMove
+    ensures { λ s. ⌜ s ≡ keepUnmarked x t ⌝ }
 {
     let p = x.phase;
     match p {
-        0 => keep_idle(x, t, words),
-        3 => keep_asked(x, t, words),
-        4 => keep_asked(x, t, words),
-        5 => keep_asked(x, t, words),
+        0 => keep_idle(x, t),
+        3 => keep_asked(x, t),
+        4 => keep_asked(x, t),
+        5 => keep_asked(x, t),
         _ => home_parts::stop(x, 8),
     }
 }
 
-fn write_back(x: HomeBlock, t: u64, words: [u64; 8]) -> HomeStep
-    ensures { λ s. ⌜ s ≡ writeBack x t words ⌝ }
+fn write_back(x: HomeNumbers, t: u64) -> HomeMove
+    ensures { λ s. ⌜ s ≡ writeBack x t ⌝ }
 {
-    let c = x.control;
-    if bits::has(c.n1, t) {
+    if bits::has(x.marks, t) {
         home_parts::stop(x, 8)
     } else {
-        keep_unmarked(x, t, words)
+        keep_unmarked(x, t)
     }
 }
 
-// Dirty and the line's words after the ack m.
-fn ack_dirty(m: Row, dirty: u64) -> u64
-    ensures { λ s. ⌜ s ≡ ackDirty m dirty ⌝ }
+// Dirty, and where the line's words come from, after an ack with the flag f.
+fn ack_dirty(f: u64, dirty: u64) -> u64
+    ensures { λ s. ⌜ s ≡ ackDirty f dirty ⌝ }
 {
-    if m.n3 == 0 { dirty } else { 1 }
+    if f == 0 { dirty } else { 1 }
 }
 
-fn ack_words(m: Row, words: [u64; 8]) -> [u64; 8]
-    ensures { λ s. ⌜ s ≡ ackWords m words ⌝ }
+fn ack_source(f: u64) -> u64
+    ensures { λ s. ⌜ s ≡ ackSource f ⌝ }
 {
-    let d = m.words;
-    if m.n3 == 0 { words } else { d }
+    if f == 0 { 0 } else { 2 }
 }
 
-fn shared_now(x: HomeBlock, owner: u64, r: u64, m: Row) -> HomeStep
-    ensures { λ s. ⌜ s ≡ sharedNow x owner r m ⌝ }
+fn shared_now(x: HomeNumbers, owner: u64, r: u64, f: u64) -> HomeMove
+    ensures { λ s. ⌜ s ≡ sharedNow x owner r f ⌝ }
 {
-    let l = x.line;
-    let before = l.words;
-    let dirty = ack_dirty(m, l.n1);
-    let words = ack_words(m, before);
+    let dirty = ack_dirty(f, x.dirty);
+    let source = ack_source(f);
     let mask = bits::add(bits::add(0, owner), r);
-    home_parts::grant(x, dirty, words, 1, mask, 1, 0, r)
+    home_parts::grant(x, dirty, source, 1, mask, 1, 0, r)
 }
 
-fn load_ack(x: HomeBlock, t: u64, m: Row) -> HomeStep
-    ensures { λ s. ⌜ s ≡ loadAck x t m ⌝ }
+fn load_ack(x: HomeNumbers, t: u64, s: u64, f: u64) -> HomeMove
+    ensures { λ r. ⌜ r ≡ loadAck x t s f ⌝ }
 {
-    let l = x.line;
-    let c = x.control;
-    let words = l.words;
     if x.phase == 3 {
-        if l.n3 == t {
-            if m.n2 == 0 {
-                home_parts::grant(x, l.n1, words, 2, c.n2, 2, 0, c.n2)
+        if x.tiles == t {
+            if s == 0 {
+                home_parts::grant(x, x.dirty, 0, 2, x.requester, 2, 0, x.requester)
             } else {
-                shared_now(x, l.n3, c.n2, m)
+                shared_now(x, x.tiles, x.requester, f)
             }
         } else {
             home_parts::stop(x, 8)
@@ -116,90 +99,91 @@ fn load_ack(x: HomeBlock, t: u64, m: Row) -> HomeStep
     }
 }
 
-fn owned_now(x: HomeBlock, t: u64, m: Row) -> HomeStep
-    ensures { λ s. ⌜ s ≡ ownedNow x t m ⌝ }
+fn owned_now(x: HomeNumbers, t: u64, f: u64) -> HomeMove
+    ensures { λ s. ⌜ s ≡ ownedNow x t f ⌝ }
 {
-    let l = x.line;
-    let c = x.control;
-    let before = l.words;
-    if l.n3 == t {
+    if x.tiles == t {
         home_parts::grant(
             x,
-            ack_dirty(m, l.n1),
-            ack_words(m, before),
+            ack_dirty(f, x.dirty),
+            ack_source(f),
             2,
-            c.n2,
+            x.requester,
             3,
             0,
-            c.n2,
+            x.requester,
         )
     } else {
         home_parts::stop(x, 8)
     }
 }
 
-fn leaves_now(x: HomeBlock, t: u64, m: Row) -> HomeStep
-    ensures { λ s. ⌜ s ≡ leavesNow x t m ⌝ }
+fn leaves_now(x: HomeNumbers, t: u64, f: u64) -> HomeMove
+    ensures { λ s. ⌜ s ≡ leavesNow x t f ⌝ }
 {
-    let l = x.line;
-    let before = l.words;
-    if l.n3 == t {
-        home_parts::leave(x, ack_dirty(m, l.n1), ack_words(m, before))
+    if x.tiles == t {
+        home_parts::leave(x, ack_dirty(f, x.dirty), ack_source(f))
     } else {
         home_parts::stop(x, 8)
     }
 }
 
-fn store_ack(x: HomeBlock, t: u64, m: Row) -> HomeStep
-    ensures { λ s. ⌜ s ≡ storeAck x t m ⌝ }
+fn store_ack(x: HomeNumbers, t: u64, f: u64) -> HomeMove
+    ensures { λ s. ⌜ s ≡ storeAck x t f ⌝ }
 {
     let p = x.phase;
     match p {
-        4 => owned_now(x, t, m),
-        5 => leaves_now(x, t, m),
+        4 => owned_now(x, t, f),
+        5 => leaves_now(x, t, f),
         _ => home_parts::stop(x, 8),
     }
 }
 
 // No tile is owed any more.
-fn cleared(x: HomeBlock) -> HomeStep
+fn cleared(x: HomeNumbers) -> HomeMove
     ensures { λ s. ⌜ s ≡ cleared x ⌝ }
 {
-    let l = x.line;
-    let c = x.control;
-    let words = l.words;
     if x.phase == 6 {
-        home_parts::grant(x, l.n1, words, 2, c.n2, 3, 0, c.n2)
+        home_parts::grant(x, x.dirty, 0, 2, x.requester, 3, 0, x.requester)
     } else {
-        home_parts::leave(x, l.n1, words)
+        home_parts::leave(x, x.dirty, 0)
     }
 }
 
 // The tiles `owed` are left.
-fn one_less(x: HomeBlock, owed: u64) -> HomeStep
+fn one_less(x: HomeNumbers, owed: u64) -> HomeMove
     ensures { λ s. ⌜ s ≡ oneLess x owed ⌝ }
 {
-    let l = x.line;
-    let c = x.control;
     if owed == 0 {
         cleared(x)
     } else {
-        home_parts::quiet(home_parts::set_home(x, x.phase, l, c.n2, owed))
+        home_parts::quiet(
+            home_parts::set_home(
+                x,
+                x.phase,
+                x.valid,
+                x.dirty,
+                x.directory,
+                x.tiles,
+                x.requester,
+                owed,
+            ),
+            0,
+        )
     }
 }
 
-fn owed_ack(x: HomeBlock, t: u64) -> HomeStep
+fn owed_ack(x: HomeNumbers, t: u64) -> HomeMove
     ensures { λ s. ⌜ s ≡ owedAck x t ⌝ }
 {
-    let c = x.control;
-    if bits::has(c.n3, t) {
-        one_less(x, bits::del(c.n3, t))
+    if bits::has(x.owed, t) {
+        one_less(x, bits::del(x.owed, t))
     } else {
         home_parts::stop(x, 8)
     }
 }
 
-fn inv_ack(x: HomeBlock, t: u64) -> HomeStep
+fn inv_ack(x: HomeNumbers, t: u64) -> HomeMove
     ensures { λ s. ⌜ s ≡ invAck x t ⌝ }
 {
     let p = x.phase;
@@ -210,17 +194,15 @@ fn inv_ack(x: HomeBlock, t: u64) -> HomeStep
     }
 }
 
-// Delivery from tile t, whose NoC3 front is m (all 0: none).
-pub fn accept(x: HomeBlock, t: u64, m: Row) -> HomeStep
-    ensures { λ s. ⌜ s ≡ accept x t m ⌝ }
+// Delivery from tile t, whose NoC3 front is of type k (0: none), with state s and flag f.
+pub fn accept(x: HomeNumbers, t: u64, k: u64, s: u64, f: u64) -> HomeMove
+    ensures { λ r. ⌜ r ≡ accept x t k s f ⌝ }
 {
-    let k = m.n0;
-    let words = m.words;
     match k {
         0 => home_parts::stop(x, 7),
-        12 => write_back(x, t, words),
-        21 => load_ack(x, t, m),
-        22 => store_ack(x, t, m),
+        12 => write_back(x, t),
+        21 => load_ack(x, t, s, f),
+        22 => store_ack(x, t, f),
         _ => inv_ack(x, t),
     }
 }

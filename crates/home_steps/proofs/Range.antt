@@ -1,12 +1,11 @@
 -- A home that was read from numbers is in range. Assumes nothing.
 use mathlib.Core.Bool.{Bool, true, false, cond}
-use Prim.Native.Nat.{ℕ, _%_, _^_, _<_}
+use Prim.Native.Nat.{ℕ, _<_}
 use native.Mathlib.Nat.{mod-lt}
 use lib.Dec.{eqb}
 use lib.Pow.{pow-pos}
 use Rattle.words.specs.declared.Row.{Row}
-use Rattle.codec.specs.Decode.{isSet, decDirectory, decLine, decHome}
-use Rattle.protocol.specs.Parts.{reading, writing, Directory, uncached, sharedBy, ownedBy, Line, absent, present, request, eviction, clearForStore, clearForEviction, Home, idle, awaitingLoad, awaitingOwner, awaitingAcks, awaitingStore}
+use Rattle.codec.specs.Decode.{decDirectory, decLine, decHome}
 use Rattle.home_steps.specs.Rules.{DirectoryIn, LineIn, HomeIn}
 
 either : {A : Type 0} (P : A → Type 0) (b : Bool) {x y : A} → P x → P y → P (cond b x y)

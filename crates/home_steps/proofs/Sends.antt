@@ -1,19 +1,19 @@
 -- What each call sends: nothing, a message for every tile of a mask, or one message to or from memory; and no refusal is 0.
 -- Assumes nothing.
-use mathlib.Core.Path.{_≡_, refl, ap, sym, _∙_, subst}
+use mathlib.Core.Path.{_≡_, refl, sym, subst}
 use mathlib.Core.Bool.{Bool, true, false, cond}
-use mathlib.Core.List.{List, [], _∷_, map}
+use mathlib.Core.List.{[], _∷_}
 use mathlib.Core.Option.{Option, some, none, Option·map}
-use Prim.Native.Nat.{ℕ, zero, suc, _+_, _^_, _≤_, _<_}
+use Prim.Native.Nat.{ℕ, _^_, _<_}
 use native.Mathlib.Omega.{arith}
 use lib.Dec.{eqb}
-use borrow.Author.Tests.{eqb-true, eqb-false}
+use borrow.Author.Tests.{eqb-false}
 use Rattle.bits.specs.Mask.{has, add, del}
 use Rattle.bits.proofs.MaskLaws.{del-lt}
-use Rattle.protocol.specs.Parts.{Words, Queue, empty, one, two, Access, reading, writing, Right, shared, exclusive, modified, Request, loadReq, storeReq, wbGuardReq, Forward, invFwd, dataAck, Reply, wbReq, loadFwdAckS, loadFwdAckI, storeFwdAck, invFwdAck, ToMemory, loadMem, storeMem, FromMemory, loadMemAck, storeMemAck, Message, onNoc2, toMemory, fromMemory, Directory, uncached, sharedBy, ownedBy, Line, absent, present, Cause, request, eviction, Clearing, clearForStore, clearForEviction, Home, idle, awaitingLoad, awaitingOwner, awaitingAcks, awaitingStore}
-use Rattle.protocol.specs.Home.{Move, move, members, grantShared, grantOwner, askedFor, askOwner, invalidateTo, invalidate, leave, serve, writeBack, loadAckS, loadAckI, storeAck, cleared, invAck, acknowledged, evictLine, dirtyAfter, wordsAfter, ownRight}
+use Rattle.protocol.specs.Parts.{Words, Queue, one, Access, reading, writing, Right, shared, exclusive, modified, Request, loadReq, storeReq, wbGuardReq, Forward, invFwd, dataAck, Reply, wbReq, loadFwdAckS, loadFwdAckI, storeFwdAck, invFwdAck, ToMemory, loadMem, storeMem, FromMemory, loadMemAck, storeMemAck, onNoc2, toMemory, fromMemory, uncached, sharedBy, ownedBy, Line, absent, present, Cause, request, eviction, Clearing, clearForStore, clearForEviction, Home, idle, awaitingLoad, awaitingOwner, awaitingAcks, awaitingStore}
+use Rattle.protocol.specs.Home.{Move, move, grantShared, grantOwner, askedFor, askOwner, invalidateTo, invalidate, leave, serve, writeBack, loadAckS, loadAckI, storeAck, cleared, invAck, acknowledged, evictLine, dirtyAfter, wordsAfter, ownRight}
 use Rattle.protocol.specs.Bench.{push, front, rest}
-use Rattle.home_steps.specs.Rules.{HomeResult, stopped, went, Queues, queuesOf, fileOne, fileTo, fileAll, wentWith, movedHome, fitting, takenHome, writtenHome, acceptedHome, servedMemory, steppedHome, ackedFront, ackedHome, evictedHome, told, Sends, refuses, silent, tells, files, answers, DirectoryIn, LineIn, CauseIn, ClearingIn, HomeIn}
+use Rattle.home_steps.specs.Rules.{stopped, Queues, queuesOf, fileOne, fileTo, fileAll, wentWith, movedHome, fitting, takenHome, writtenHome, acceptedHome, servedMemory, steppedHome, ackedFront, ackedHome, evictedHome, told, Sends, refuses, silent, tells, files, answers, LineIn, ClearingIn, HomeIn}
 use Rattle.home_steps.proofs.Told.{add-pos, add-below, told-one, file-told}
 
 module _ (n : ℕ) where

@@ -5,10 +5,10 @@ use mathlib.Core.List.{List, [], _∷_}
 use mathlib.Core.Option.{Option, some, none, Option·map}
 use lib.ListN.{length, set}
 use Rattle.bits.specs.Mask.{has}
-use Rattle.protocol.specs.Parts.{Words, Queue, Access, reading, writing, Request, loadReq, storeReq, wbGuardReq, Reply, wbReq, loadFwdAckS, loadFwdAckI, storeFwdAck, invFwdAck, ToMemory, loadMem, storeMem, FromMemory, loadMemAck, storeMemAck, Message, onNoc1, onNoc2, onNoc3, toMemory, fromMemory, Tile, Line, absent, present, Home, idle, awaitingLoad, awaitingOwner, awaitingAcks, awaitingStore, Bench, benchOf, Result}
+use Rattle.protocol.specs.Parts.{Words, Queue, reading, writing, Request, loadReq, storeReq, wbGuardReq, Reply, wbReq, loadFwdAckS, loadFwdAckI, storeFwdAck, invFwdAck, ToMemory, loadMem, storeMem, FromMemory, loadMemAck, storeMemAck, Message, onNoc1, onNoc2, onNoc3, toMemory, fromMemory, Tile, Line, absent, present, Home, idle, awaitingLoad, awaitingOwner, awaitingAcks, awaitingStore, Bench, benchOf}
 use Rattle.protocol.specs.Home.{Move, move, serve, writeBack, loadAckS, loadAckI, storeAck, invAck, acknowledged, evictLine}
 use Rattle.protocol.specs.Bench.{tileAt, push, front, rest, onTile1, onTile2, onTile3, sendOne, sendTo, send, sent, posted, kindOf, served, take, writtenBack, moved, accept, memoryServes, memoryStepOn, acceptAck, memoryAckOn, homeEvictionOn}
-use Rattle.home_steps.specs.Rules.{HomeResult, stopped, went, Queues, queuesOf, fileOne, fileTo, fileAll, forwardOne, forwardTo, forwardAll, spread, wentWith, movedHome, fitting, takenHome, writtenHome, acceptedHome, servedMemory, steppedHome, ackedFront, ackedHome, evictedHome}
+use Rattle.home_steps.specs.Rules.{Queues, queuesOf, fileOne, fileTo, fileAll, forwardOne, forwardTo, forwardAll, spread, wentWith, movedHome, fitting, takenHome, writtenHome, acceptedHome, servedMemory, steppedHome, ackedFront, ackedHome, evictedHome}
 
 send-none : (ms : List Message) → send ms none ≡ none
 unfolding send sendTo

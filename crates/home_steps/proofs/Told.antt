@@ -1,5 +1,5 @@
 -- A message for every tile of a mask: its list of messages, and the mask read off the list. Assumes nothing.
-use mathlib.Core.Path.{_≡_, refl, ap, sym, _∙_, subst}
+use mathlib.Core.Path.{_≡_, refl, ap, sym, _∙_}
 use mathlib.Core.Bool.{Bool, true, false, cond}
 use mathlib.Core.List.{List, [], _∷_, map}
 use mathlib.Core.Option.{some}
@@ -12,7 +12,7 @@ use Rattle.bits.specs.Mask.{has, add, add64}
 use Rattle.bits.proofs.MaskLaws.{has-add, has-add-other, has-none, add-lt, ext}
 use Rattle.words.specs.declared.HomeBlock.{HomeBlock}
 use Rattle.codec.specs.Encode.{encForward, encHome}
-use Rattle.protocol.specs.Parts.{Words, Queue, Forward, ToMemory, FromMemory, Message, onNoc2, Home}
+use Rattle.protocol.specs.Parts.{Words, Queue, Forward, ToMemory, FromMemory, onNoc2, Home}
 use Rattle.protocol.specs.Home.{move, range, among, members}
 use Rattle.protocol.specs.Bench.{kindOf}
 use Rattle.home_parts.specs.Numbers.{tell}

@@ -29,23 +29,28 @@ fn cuts(words: &mut [u64], job: &[u8], out: &mut [u8]) {
     }
 }
 
-// The job that argument i names: its cuts, or itself.
-fn run(i: usize, is_cut: bool, words: &mut [u64], out: &mut [u8]) {
-    let mut path = io::buffer();
-    let length = os::arg(i, &mut path);
-    let fd = os::open_read(&path[..length]);
-    if fd < 0 {
-        os::fail(&path[..length]);
-        return;
-    }
+// The job in an open file: its cuts, or itself.
+fn run_file(fd: i32, name: &[u8], is_cut: bool, words: &mut [u64], out: &mut [u8]) {
     let mut input = [0u8; 65537];
     let n = io::read_full(fd, &mut input);
     libc::close(fd);
     if is_cut {
         cuts(words, &input[..n], out);
     } else {
-        title(&path[..length]);
+        title(name);
         job_print::print(words, &input[..n], out);
+    }
+}
+
+// The job that argument i names.
+fn run(i: usize, is_cut: bool, words: &mut [u64], out: &mut [u8]) {
+    let mut path = io::buffer();
+    let length = os::arg(i, &mut path);
+    let fd = os::open_read(&path[..length]);
+    if fd < 0 {
+        os::fail(&path[..length]);
+    } else {
+        run_file(fd, &path[..length], is_cut, words, out);
     }
 }
 

@@ -1,32 +1,39 @@
 -- The three ways in which a home step is committed, and that each is the rules' step. Assumes nothing.
-use Prim.Native.Nat.{ℕ, suc, _+_, _-_, _*_, _^_, _≤_, _<_}
+use Prim.Native.Nat.{ℕ, suc, _+_, _≤_}
 use mathlib.Core.Path.{_≡_, refl, ap, sym, _∙_, subst}
-use mathlib.Core.Bool.{Bool, cond, true, false, _&&_, false≢true}
-use mathlib.Core.List.{List, [], _∷_, _++_}
+use mathlib.Core.Bool.{Bool, cond, true, false, false≢true}
+use mathlib.Core.List.{List}
 use native.Mathlib.Omega.{arith}
 use lib.Dec.{eqb}
-use lib.ListN.{length, getD, set, drop, length-set}
-use lib.Seq.{getD-set-same, getD-set-other}
+use lib.ListN.{length, getD, drop}
 use borrow.Author.Tests.{eqb-true, eqb-false}
 use Rattle.bits.specs.Mask.{has}
-use Rattle.words.specs.declared.TileBlock.{TileBlock}
 use Rattle.words.specs.declared.HomeBlock.{HomeBlock}
-use Rattle.words.specs.Blocks.{over, homeAt, homeWords, tileWords, HomeFull, TileFull}
-use Rattle.protocol.specs.Parts.{Tile, Message, Bench, Call, Result, refused, accepted}
-use Rattle.protocol.specs.Bench.{freshTile, tileAt, step}
-use Rattle.codec.specs.Encode.{encTile, encode}
-use Rattle.codec.specs.Decode.{decTiles, decoded}
-use Rattle.tile_steps.specs.Steps.{room}
+use Rattle.words.specs.Blocks.{over, homeAt, homeWords}
+use Rattle.protocol.specs.Parts.{Tile, Call}
+use Rattle.protocol.specs.Bench.{step}
+use Rattle.codec.specs.Decode.{decoded}
+use Rattle.queue_words.specs.Queues.{room, pop}
 use Rattle.home_parts.specs.declared.HomeStep.{HomeStep}
 use Rattle.home_steps.specs.Rules.{HomeResult, spread, encStep, Sends}
 use Rattle.bench_words.specs.declared.Answer.{Answer}
 use Rattle.bench_words.specs.Calls.{need, wellFormed, stepOn, answerOf, wordsAfter, refusal}
-use Rattle.posts.specs.Post.{rooms, tellAll, homeAnswer, Committed}
+use Rattle.posts.specs.Post.{oneRoom, rooms, tellAll, homeAnswer, moveAnswer, popped, answering, Finishes, Committed}
+use Rattle.words.specs.declared.Row.{Row}
+use Rattle.words.specs.Blocks.{rowAt, pairAt, pairWords}
+use Rattle.bits.proofs.MaskLaws.{has-none}
+use Rattle.codec.specs.Encode.{zeros, row, noRow}
+use Rattle.home_parts.specs.declared.HomeMove.{HomeMove}
+use Rattle.home_parts.specs.Numbers.{stepOf, stop, filed, outAfter, forwardOf, lined, applied, answer, memoryStep}
+use Rattle.home_words.specs.InPlace.{Homes, moved, stepped}
+use Rattle.home_words.proofs.Parts.{home-read}
+use Rattle.posts.proofs.Turns.{and-true}
+use borrow.Author.Tests.{eq-eqb, ne-eqb}
 use Rattle.bench_words.proofs.Laid.{Laid}
-use Rattle.bench_words.proofs.Decoded.{Found, found, count, laid-out}
+use Rattle.bench_words.proofs.Decoded.{found}
 use Rattle.bench_words.proofs.Meets.{Meets}
-use Rattle.posts.proofs.Posted.{allRoom, rooms-tiles}
-use Rattle.posts.proofs.Finished.{Finished, stopped-by, no-room, finished}
+use Rattle.posts.proofs.Posted.{allRoom}
+use Rattle.posts.proofs.Finished.{none-told, stopped-by, no-room, finished}
 
 module _ (l k : List ℕ) (n v : ℕ) (s : HomeStep) (a : Answer) (m : List ℕ) where
   pub is-stopped : (s .refusal ≡ 0 → ⊥) → a ≡ refusal (s .refusal) → m ≡ l → Committed l k n v s a m
@@ -35,19 +42,90 @@ module _ (l k : List ℕ) (n v : ℕ) (s : HomeStep) (a : Answer) (m : List ℕ)
   pub is-full : s .refusal ≡ 0 → rooms true l 74 0 (s .to) n ≡ false → a ≡ refusal 9 → m ≡ l → Committed l k n v s a m
   is-full z f e w = record { stops = λ wrong. absurd (wrong z); no-room = λ _ _. (e, w); done = λ _ t. absurd (false≢true (sym f ∙ t)) }
 
-  pub is-done : s .refusal ≡ 0 → rooms true l 74 0 (s .to) n ≡ true → a ≡ homeAnswer s v → m ≡ tellAll (over k 0 (homeWords (s .home))) 74 0 (s .to) (s .forward) n → HomeFull (s .home) → length (s .forward .words) ≡ 8 →
-      Committed l k n v s a m
-  is-done z t e w full eight = record { stops = λ wrong. absurd (wrong z); no-room = λ _ f. absurd (false≢true (sym f ∙ t)); done = λ _ _. (e, w, full, eight) }
+  pub is-done : s .refusal ≡ 0 → rooms true l 74 0 (s .to) n ≡ true → a ≡ homeAnswer s v → Finishes k n s m → Committed l k n v s a m
+  is-done z t e w = record { stops = λ wrong. absurd (wrong z); no-room = λ _ f. absurd (false≢true (sym f ∙ t)); done = λ _ _. (e, w) }
+
+-- the same for a move, whatever block and words it is applied to
+module _ (l k : List ℕ) (n v : ℕ) (x : HomeBlock) (ws : List ℕ) (q : HomeMove) (a : Answer) (m : List ℕ) where
+  pub move-stopped : (q .refusal ≡ 0 → ⊥) → a ≡ refusal (q .refusal) → m ≡ l → Committed l k n v (applied x ws q) a m
+  unfolding applied
+  move-stopped wrong e w = is-stopped l k n v (applied x ws q) a m wrong e w
+
+  pub move-full : q .refusal ≡ 0 → rooms true l 74 0 (q .to) n ≡ false → a ≡ refusal 9 → m ≡ l → Committed l k n v (applied x ws q) a m
+  unfolding applied
+  move-full z f e w = is-full l k n v (applied x ws q) a m z f e w
+
+  pub move-done : q .refusal ≡ 0 → rooms true l 74 0 (q .to) n ≡ true → a ≡ moveAnswer q v → Finishes k n (applied x ws q) m → Committed l k n v (applied x ws q) a m
+  unfolding applied
+  move-done z t e w = is-done l k n v (applied x ws q) a m z t e w
+
+-- what a move tells tiles is read in the words in which it is made
+module _ (l k m : List ℕ) (n : ℕ) (ws : List ℕ) (q : HomeMove) (f : Row) where
+  same-line : (o : ℕ) (y : HomeBlock) → forwardOf q (outAfter o y) ≡ forwardOf q y
+  unfolding outAfter filed forwardOf
+  same-line o y = go (eqb o 0)
+    where
+      go : (b : Bool) → forwardOf q (cond b y (filed (row o 0 0 0 (cond (eqb o 20) (y .line .words) zeros)) y)) ≡ forwardOf q y
+      go true = refl
+      go false = refl
+
+  pub finishes : Homes l (moved ws q) k → f ≡ forwardOf q (homeAt k) → m ≡ tellAll k 74 0 (q .to) f n → length (f .words) ≡ 8 → Finishes l n (applied (homeAt l) ws q) m
+  unfolding applied
+  finishes h e w n8 =
+      let g : f ≡ forwardOf q (lined (homeAt l) ws q) = e ∙ ap (forwardOf q) (home-read l k (moved ws q (homeAt l)) h) ∙ same-line (q .filed) (lined (homeAt l) ws q) in
+      record {
+        words = w ∙ ap (λ (z : List ℕ). tellAll z 74 0 (q .to) f n) (h .words) ∙ ap (λ (z : Row). tellAll (over l 0 (homeWords (moved ws q (homeAt l)))) 74 0 (q .to) z n) g;
+        home = h .full;
+        row = subst (λ (z : Row). length (z .words) ≡ 8) g n8;
+      }
+
+-- the front message taken off first
+pub took : (l k m : List ℕ) (n at : ℕ) (q : HomeMove) (d : Row) → d ≡ rowAt l at → k ≡ over l at (pairWords (pop (pairAt l at))) → Finishes k n (applied (homeAt k) (d .words) q) m → Finishes (popped l at) n (answering l at q) m
+unfolding popped answering
+took l k m n at q d e f p =
+    subst (λ (z : List ℕ). Finishes z n (applied (homeAt z) (rowAt l at .words) q) m) f (subst (λ (z : Row). Finishes k n (applied (homeAt k) (z .words) q) m) e p)
+
+-- a step that tells no tile has room
+rooms-none : (a : Bool) (l : List ℕ) (at i j : ℕ) → rooms a l at i 0 j ≡ a
+unfolding rooms oneRoom
+rooms-none a l at i ℕ.zero = refl
+rooms-none a l at i (suc j) = rw (has-none i, and-true a) (rooms-none a l (at + 84) (i + 1) j)
+
+-- the memory's step
+module _ (l k : List ℕ) (n : ℕ) (ws : List ℕ) (r : Row) (a : Answer) where
+  pub memory-full : room (pairAt l 50) ≡ false → a ≡ refusal 9 → Committed l l n 0 (answer (homeAt l) ws r) a l
+  unfolding answer homeAt room stop
+  memory-full e f = rw e (is-stopped l l n 0 (stop (homeAt l) 9) a l (λ z. omega arith) f refl)
+
+  pub memory-done : room (pairAt l 50) ≡ true → Homes l (stepped ws r) k → a ≡ record { refusal = 0; kind = 3; value = 0; sent = 5; tiles = 0 } → Committed l l n 0 (answer (homeAt l) ws r) a k
+  unfolding answer homeAt room
+  memory-done e h f =
+      let B : HomeBlock = stepped ws r (homeAt l) in
+      rw e (is-done l l n 0 (stepOf 0 3 B 5 0 noRow) a k refl (rooms-none true l 74 0 n) f
+      (record { words = h .words ∙ sym (none-told (over l 0 (homeWords B)) 74 0 noRow n); home = h .full; row = refl }))
+
+module _ (l m : List ℕ) (n : ℕ) (a : Answer) where
+  pub memory-empty : getD l 26 0 ≡ 0 → a ≡ refusal 7 → Committed l l n 0 (memoryStep (homeAt l)) a l
+  unfolding memoryStep homeAt pairAt rowAt stop
+  memory-empty e f = rw (eq-eqb (getD l 26 0) 0 e) (is-stopped l l n 0 (stop (homeAt l) 7) a l (λ z. omega arith) f refl)
+
+  pub memory-reads : (d r : Row) → getD l 26 0 ≡ 19 → d ≡ rowAt l 14 → r ≡ row 24 0 0 0 (d .words) → Committed l l n 0 (answer (homeAt l) (d .words) r) a m → Committed l l n 0 (memoryStep (homeAt l)) a m
+  unfolding memoryStep homeAt pairAt rowAt
+  memory-reads d r z e q p = subst (λ (s : HomeStep). Committed l l n 0 s a m) (sym (simp (z, q, e))) p
+
+  pub memory-stores : (d r : Row) → (getD l 26 0 ≡ 0 → ⊥) → (getD l 26 0 ≡ 19 → ⊥) → d ≡ rowAt l 26 → r ≡ row 25 0 0 0 zeros → Committed l l n 0 (answer (homeAt l) (d .words) r) a m → Committed l l n 0 (memoryStep (homeAt l)) a m
+  unfolding memoryStep homeAt pairAt rowAt
+  memory-stores d r y z e q p = subst (λ (s : HomeStep). Committed l l n 0 s a m) (sym (simp (ne-eqb _ _ y, ne-eqb _ _ z, q, e))) p
 
 -- a committed step is the call's step: R is the home's result, ts the tiles on which it acts
-module _ (l k : List ℕ) (c : Call) (v : ℕ) (s : HomeStep) (a : Answer) (m : List ℕ) (h : wellFormed l ≡ true) (R : HomeResult) (B : HomeBlock) (ts : List Tile) where
+module _ (l k : List ℕ) (c : Call) (v : ℕ) (s : HomeStep) (a : Answer) (m : List ℕ) (h : wellFormed l ≡ true) (R : HomeResult) (B G : HomeBlock) (ts : List Tile) where
   abbrev n : ℕ
   n = getD l 0 0
 
   abbrev r : List ℕ
   r = drop (need n) l
 
-  pub committed : length ts ≡ n → Laid k (homeAt l) ts r → Sends n R → s ≡ encStep n B R → step c (decoded l) ≡ spread v R ts → rooms true l 74 0 (s .to) n ≡ allRoom ts 0 (s .to) n → Committed l k n v s a m →
+  pub committed : length ts ≡ n → Laid k G ts r → Sends n R → s ≡ encStep n B R → step c (decoded l) ≡ spread v R ts → rooms true l 74 0 (s .to) n ≡ allRoom ts 0 (s .to) n → Committed l k n v s a m →
       Meets l (stepOn l c) a m
   unfolding stepOn answerOf wordsAfter
   committed cnt lay snd is by rm made = rw (h, by) (go (eqb (s .refusal) 0) refl (rooms true l 74 0 (s .to) n) refl)
@@ -64,5 +142,5 @@ module _ (l k : List ℕ) (c : Call) (v : ℕ) (s : HomeStep) (a : Answer) (m : 
           rw (no-room n small B s v ts cnt R snd is (eqb-true (s .refusal) 0 ez) (sym rm ∙ eb)) (record { answer = w .0; words = w .1 })
       go true ez true eb =
           let w = made .done (eqb-true (s .refusal) 0 ez) eb in
-          let f = finished n small B s v ts cnt k r (homeAt l) lay (w .2) (w .3) R snd is (eqb-true (s .refusal) 0 ez) (sym rm ∙ eb) in
-          rw (f .by-rules) (record { answer = w .0 ∙ (λ i. record { refusal = 0; kind = s .kind; value = v; sent = sym (f .on) i; tiles = sym (f .to) i }); words = w .1 ∙ f .words })
+          let f = finished n small B s v ts cnt k r G lay (w .1 .home) (w .1 .row) R snd is (eqb-true (s .refusal) 0 ez) (sym rm ∙ eb) in
+          rw (f .by-rules) (record { answer = w .0 ∙ (λ i. record { refusal = 0; kind = s .kind; value = v; sent = sym (f .on) i; tiles = sym (f .to) i }); words = w .1 .words ∙ f .words })

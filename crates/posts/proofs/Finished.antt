@@ -1,29 +1,28 @@
 -- A home step, committed to the words, is the rules' step of the bench. Assumes nothing.
-use Prim.Native.Nat.{ℕ, suc, _+_, _-_, _*_, _^_, _≤_, _<_}
+use Prim.Native.Nat.{ℕ, suc, _+_, _^_, _≤_, _<_}
 use mathlib.Core.Path.{_≡_, refl, ap, sym, _∙_, subst}
-use mathlib.Core.Bool.{Bool, cond, true, false, _&&_, false≢true}
+use mathlib.Core.Bool.{Bool, cond, true, false, false≢true}
 use mathlib.Core.List.{List, [], _∷_, _++_, map}
-use mathlib.Core.Option.{Option, some, none, Option·map}
+use mathlib.Core.Option.{some, Option·map}
 use native.Mathlib.Omega.{arith}
-use lib.ListN.{length, getD, set, drop, length-set}
-use lib.Seq.{getD-set-same, getD-set-other}
-use Rattle.bits.specs.Mask.{has, add, add64}
+use lib.ListN.{length}
+use Rattle.bits.specs.Mask.{has, add}
 use Rattle.bits.proofs.MaskLaws.{has-none}
 use Rattle.words.specs.declared.Row.{Row}
 use Rattle.words.specs.declared.HomeBlock.{HomeBlock}
 use Rattle.words.specs.Blocks.{over, homeWords, HomeFull}
-use Rattle.protocol.specs.Parts.{Words, Queue, Forward, ToMemory, FromMemory, Message, onNoc1, onNoc2, onNoc3, toMemory, fromMemory, Tile, Home, Bench, benchOf, Result, refused, accepted}
+use Rattle.protocol.specs.Parts.{Words, Queue, Forward, ToMemory, FromMemory, Message, onNoc2, toMemory, fromMemory, Tile, Home, Bench, benchOf, refused, accepted}
 use Rattle.protocol.specs.Home.{range, among, members}
 use Rattle.protocol.specs.Bench.{sent, kindOf}
 use Rattle.codec.specs.Encode.{encForward, encHome, encode}
 use Rattle.codec.specs.Sent.{sentOn, sentTo}
 use Rattle.home_parts.specs.declared.HomeStep.{HomeStep}
 use Rattle.home_parts.specs.Numbers.{stop, tell}
-use Rattle.home_steps.specs.Rules.{HomeResult, stopped, went, spread, forwardAll, forwardTo, forwardOne, encStep, sentNumber, targets, forwardRow, told, Sends, refuses, silent, tells, files, answers}
+use Rattle.home_steps.specs.Rules.{HomeResult, went, spread, forwardAll, forwardTo, forwardOne, encStep, sentNumber, targets, forwardRow, told, Sends, refuses, silent, tells, files, answers}
 use Rattle.home_steps.proofs.Told.{add-small, told-targets, told-step}
 use Rattle.posts.specs.Post.{tellOne, tellAll}
 use Rattle.bench_words.proofs.Laid.{Laid, write-home, laid-encode}
-use Rattle.posts.proofs.Posted.{tellTiles, sent-tiles, allRoom, not-told, Told, told-words}
+use Rattle.posts.proofs.Posted.{tellTiles, sent-tiles, allRoom, not-told, told-words}
 
 -- the empty mask
 none-room : (ts : List Tile) (i j : ℕ) → allRoom ts i 0 j ≡ true
@@ -31,7 +30,7 @@ unfolding allRoom
 none-room ts i ℕ.zero = refl
 none-room ts i (suc j) = rw (has-none i) (none-room ts (suc i) j)
 
-none-told : (l : List ℕ) (at i : ℕ) (m : Row) (j : ℕ) → tellAll l at i 0 m j ≡ l
+pub none-told : (l : List ℕ) (at i : ℕ) (m : Row) (j : ℕ) → tellAll l at i 0 m j ≡ l
 unfolding tellAll tellOne
 none-told l at i m ℕ.zero = refl
 none-told l at i m (suc j) = rw (has-none i) (none-told l (at + 84) (i + 1) m j)

@@ -1,28 +1,28 @@
 -- A message for every tile of a mask, on the words, is what the rules send. Assumes nothing.
-use Prim.Native.Nat.{ℕ, suc, _+_, _-_, _*_, _^_, _≤_, _<_}
+use Prim.Native.Nat.{ℕ, suc, _+_, _*_, _≤_, _<_}
 use mathlib.Core.Path.{_≡_, refl, ap, sym, _∙_, subst}
 use mathlib.Core.Bool.{Bool, cond, true, false, _&&_, false≢true}
-use mathlib.Core.List.{List, [], _∷_, _++_, map}
+use mathlib.Core.List.{List, [], _∷_, map}
 use mathlib.Core.Option.{Option, some, none, Option·map}
 use native.Mathlib.Omega.{arith}
 use native.Mathlib.Numerals.{add-one}
-use lib.Dec.{eqb}
-use lib.ListN.{length, getD, set, drop, length-set}
-use lib.Seq.{getD-set-same, getD-set-other}
+use lib.ListN.{length, set, length-set}
+use lib.Seq.{getD-set-other}
 use Rattle.bits.specs.Mask.{has}
 use Rattle.words.specs.declared.Row.{Row}
 use Rattle.words.specs.declared.Pair.{Pair}
 use Rattle.words.specs.declared.TileBlock.{TileBlock}
 use Rattle.words.specs.declared.HomeBlock.{HomeBlock}
 use Rattle.words.specs.Blocks as blocks
-use Rattle.words.specs.Blocks.{over, tileWords, homeWords, PairFull, TileFull, HomeFull}
+use Rattle.words.specs.Blocks.{over, tileWords, TileFull}
 use Rattle.protocol.specs.Parts.{Words, Queue, empty, one, two, Forward, ToMemory, FromMemory, Message, onNoc2, Tile, tileOf, Home, Bench, benchOf}
-use Rattle.protocol.specs.Home.{range, among, members}
+use Rattle.protocol.specs.Home.{range, among}
 use Rattle.protocol.specs.Bench as rules
 use Rattle.protocol.specs.Bench.{tileAt, onTile2, sendOne}
-use Rattle.codec.specs.Encode.{noRow, encRequest, encForward, encReply, encQueue, encTile}
+use Rattle.codec.specs.Encode.{encRequest, encForward, encReply, encQueue, encTile}
 use Rattle.codec.proofs.Canonical.{both-true}
-use Rattle.tile_steps.specs.Steps.{room, push, headed}
+use Rattle.queue_words.specs.Queues.{room, push}
+use Rattle.tile_parts.specs.Steps.{headed}
 use Rattle.tile_steps.proofs.Rules.{forward-kind}
 use Rattle.home_steps.specs.Rules.{forwardOne, forwardTo, forwardAll, told}
 use Rattle.posts.specs.Post.{oneRoom, rooms, toldTile, tellOne, tellAll}

@@ -1,7 +1,7 @@
 -- One turn, and the end, of each loop over the tiles of a mask: from one tile in it to the next. Assumes nothing.
 use Prim.Native.Nat.{ℕ, suc, _+_, _-_, _*_, _<_, _≤_}
 use mathlib.Core.Path.{_≡_, refl, ap, sym, _∙_}
-use mathlib.Core.Bool.{Bool, cond, true, false, _&&_}
+use mathlib.Core.Bool.{Bool, true, false, _&&_}
 use mathlib.Core.List.{List}
 use native.Mathlib.Omega.{arith}
 use native.Mathlib.Numerals.{add-one}
@@ -10,7 +10,7 @@ use Rattle.find_first.specs.Next.{next}
 use Rattle.find_first.proofs.NextLaws.{skip-to-next}
 use Rattle.words.specs.declared.Row.{Row}
 use Rattle.words.specs.Blocks.{tileAt, over, tileWords}
-use Rattle.tile_steps.specs.Steps.{room}
+use Rattle.queue_words.specs.Queues.{room}
 use Rattle.posts.specs.Post.{oneRoom, rooms, toldTile, tellOne, tellAll}
 
 pub and-true : (a : Bool) → (a && true) ≡ a

@@ -8,10 +8,12 @@ use lib.ListN.{length}
 use Rattle.bits.specs.Mask.{has}
 use Rattle.words.specs.declared.Row.{Row}
 use Rattle.words.specs.declared.TileBlock.{TileBlock}
-use Rattle.words.specs.declared.HomeBlock.{HomeBlock}
-use Rattle.words.specs.Blocks.{tileAt, tileWords, homeWords, over, HomeFull}
-use Rattle.tile_steps.specs.Steps.{room, push, headed}
+use Rattle.words.specs.Blocks.{rowAt, pairAt, tileAt, homeAt, pairWords, tileWords, homeWords, over, HomeFull}
+use Rattle.queue_words.specs.Queues.{room, push, pop}
+use Rattle.tile_parts.specs.Steps.{headed}
+use Rattle.home_parts.specs.declared.HomeMove.{HomeMove}
 use Rattle.home_parts.specs.declared.HomeStep.{HomeStep}
+use Rattle.home_parts.specs.Numbers.{applied}
 use Rattle.bench_words.specs.declared.Answer.{Answer}
 use Rattle.bench_words.specs.Calls.{refusal}
 
@@ -39,12 +41,22 @@ tellAll l at i to m (suc n) = tellAll (tellOne l at i to m) (at + 84) (i + 1) to
 abbrev pub homeAnswer : HomeStep → ℕ → Answer
 homeAnswer s v = record { refusal = 0; kind = s .kind; value = v; sent = s .sent; tiles = s .to }
 
--- A home step s that leaves what is of memory in the block x: its words, the queue from it, and the queue to it unless s puts a message there (4).
-pub record Kept (x : HomeBlock) (s : HomeStep) : Type 0 where
-  pub tiles : s .home .tiles ≡ x .tiles
-  pub memory : s .home .control .words ≡ x .control .words
-  pub out : (s .sent ≡ 4 → ⊥) → s .home .out ≡ x .out
-  pub back : s .home .back ≡ x .back
+-- the answer of a move, with value v
+abbrev pub moveAnswer : HomeMove → ℕ → Answer
+moveAnswer m v = record { refusal = 0; kind = m .kind; value = v; sent = m .sent; tiles = m .to }
+
+-- the words without the front message of the queue at place i; and the step of a move that answers it
+unfoldable pub popped : List ℕ → ℕ → List ℕ
+popped l i = over l i (pairWords (pop (pairAt l i)))
+
+unfoldable pub answering : List ℕ → ℕ → HomeMove → HomeStep
+answering l i m = applied (homeAt (popped l i)) (rowAt l i .words) m
+
+-- m is k with the block of the home step s, and its message on its tiles' queues
+pub record Finishes (k : List ℕ) (n : ℕ) (s : HomeStep) (m : List ℕ) : Type 0 where
+  pub words : m ≡ tellAll (over k 0 (homeWords (s .home))) 74 0 (s .to) (s .forward) n
+  pub home : HomeFull (s .home)
+  pub row : length (s .forward .words) ≡ 8
 
 -- A home step s committed to words l of n tiles, with k the words that it is written over, a the answer and m the words after it:
 -- refused, refused 9 for want of room, or done.
@@ -52,4 +64,4 @@ pub record Committed (l k : List ℕ) (n v : ℕ) (s : HomeStep) (a : Answer) (m
   pub stops : (s .refusal ≡ 0 → ⊥) → (a ≡ refusal (s .refusal)) × (m ≡ l)
   pub no-room : s .refusal ≡ 0 → rooms true l 74 0 (s .to) n ≡ false → (a ≡ refusal 9) × (m ≡ l)
   pub done : s .refusal ≡ 0 → rooms true l 74 0 (s .to) n ≡ true →
-      (a ≡ homeAnswer s v) × (m ≡ tellAll (over k 0 (homeWords (s .home))) 74 0 (s .to) (s .forward) n) × HomeFull (s .home) × (length (s .forward .words) ≡ 8)
+      (a ≡ homeAnswer s v) × Finishes k n s m

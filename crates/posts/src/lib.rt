@@ -1,15 +1,16 @@
-// A home step committed to the words of a bench: its new block, and its message on NoC2 of every tile that it tells.
+// A move of the home committed to the words of a bench: its block, and its message on NoC2 of every tile that it tells. And the memory's step.
 ghost use mathlib.Core.Path.{_≡_};
 ghost use mathlib.Core.Bool.{true};
 ghost use Prim.Native.Nat.{_+_, _*_, _≤_, _<_};
 ghost use lib.ListN.{length};
-ghost use mathlib.Core.List.{_∷_, []};
-ghost use Rattle.tile_steps.specs.Steps.{room, pop};
-ghost use Rattle.words.specs.Blocks.{pairAt, tileAt, homeAt, over, rowWords, pairWords, tileWords, homeWords, HomeFull};
+ghost use Rattle.words.specs.Blocks.{tileAt, homeAt, over, tileWords};
+ghost use Rattle.codec.specs.Encode.{zeros};
+ghost use Rattle.queue_words.specs.Queues.{room};
+ghost use Rattle.home_parts.specs.Numbers.{applied, answer, memoryStep};
 ghost use Rattle.bench_words.specs.Calls.{need};
-ghost use Rattle.posts.specs.Post.{rooms, toldTile, tellAll, homeAnswer, Kept, Committed};
+ghost use Rattle.posts.specs.Post.{rooms, toldTile, tellAll, moveAnswer, popped, answering, Finishes, Committed};
 use bench_words::Answer;
-use home_steps::HomeStep;
+use home_parts::HomeMove;
 use words::Row;
 
 fn one_room(w: &[u64], i: u64) -> bool
@@ -38,7 +39,7 @@ fn tell_one(w: &mut [u64], i: u64, m: Row)
     requires { ⌜ (need (i + 1) ≤ length (now w)) × (i < 64) ⌝ }
     ensures { λ _. ⌜ now (w .exit) ≡ over (now (w .entry)) (74 + 84 * i) (tileWords (toldTile m (tileAt (now (w .entry)) (74 + 84 * i)))) ⌝ }
 {
-    tile_steps::push_at(w, 74 + 84 * (i as usize) + 36, m);
+    queue_words::push_at(w, 74 + 84 * (i as usize) + 36, m);
 }
 
 // Puts the message m on NoC2 of every tile of the mask.
@@ -54,107 +55,117 @@ fn tell_all(w: &mut [u64], n: u64, to: u64, m: Row)
     }
 }
 
-fn home_answer(s: HomeStep, v: u64) -> Answer
-    ensures { λ r. ⌜ r ≡ homeAnswer s v ⌝ }
+fn move_answer(m: HomeMove, v: u64) -> Answer
+    ensures { λ r. ⌜ r ≡ moveAnswer m v ⌝ }
 {
     Answer {
         refusal: 0,
-        kind: s.kind,
+        kind: m.kind,
         value: v,
-        sent: s.sent,
-        tiles: s.to,
+        sent: m.sent,
+        tiles: m.to,
     }
 }
 
-// Writes the home's new block and puts the step's message on its tiles' queues.
-fn finish(w: &mut [u64], n: u64, s: HomeStep)
+// Makes the home's move, where d are the words of the message that it answers, and puts its message on its tiles' queues.
+fn finish(w: &mut [u64], n: u64, m: HomeMove, d: [u64; 8])
     requires { ⌜ (need n ≤ length (now w)) × (n ≤ 64) ⌝ }
-    ensures { λ _. ⌜ now (w .exit) ≡ tellAll (over (now (w .entry)) 0 (homeWords (s .home))) 74 0 (s .to) (s .forward) n ⌝ }
-    ensures home { λ _. ⌜ HomeFull (s .home) ⌝ }
-    ensures row { λ _. ⌜ length (s .forward .words) ≡ 8 ⌝ }
+    ensures { λ _. ⌜ Finishes (now (w .entry)) n (applied (homeAt (now (w .entry))) d m) (now (w .exit)) ⌝ }
 {
-    words::write_home(w, s.home);
-    tell_all(w, n, s.to, s.forward);
+    home_words::move_at(w, m, d);
+    let f = home_words::forward_in(w, m);
+    tell_all(w, n, m.to, f);
 }
 
-// A home step that concerns no tile's own queues.
-pub fn commit(w: &mut [u64], n: u64, v: u64, s: HomeStep) -> Answer
+// A home move that answers no message.
+pub fn commit(w: &mut [u64], n: u64, v: u64, m: HomeMove) -> Answer
     requires { ⌜ (need n ≤ length (now w)) × (n ≤ 64) ⌝ }
-    ensures { λ r. ⌜ Committed (now (w .entry)) (now (w .entry)) n v s r (now (w .exit)) ⌝ }
+    ensures { λ r. ⌜ Committed (now (w .entry)) (now (w .entry)) n v (applied (homeAt (now (w .entry))) zeros m) r (now (w .exit)) ⌝ }
 {
-    if s.refusal == 0 {
-        let free = rooms(w, n, s.to);
+    if m.refusal == 0 {
+        let free = rooms(w, n, m.to);
         if free {
-            finish(w, n, s);
-            home_answer(s, v)
+            finish(w, n, m, [0; 8]);
+            move_answer(m, v)
         } else {
             bench_words::refused(9)
         }
     } else {
-        bench_words::refused(s.refusal)
+        bench_words::refused(m.refusal)
     }
 }
 
-fn write_numbers(w: &mut [u64], at: usize, a: u64, b: u64, c: u64, d: u64)
-    requires { ⌜ at + 4 ≤ length (now w) ⌝ }
-    ensures { λ _. ⌜ now (w .exit) ≡ over (now (w .entry)) at (a ∷ b ∷ c ∷ d ∷ []) ⌝ }
+fn take_off(w: &mut [u64], n: u64, m: HomeMove, at: usize)
+    requires { ⌜ (need n ≤ length (now w)) × (n ≤ 64) × (at + 24 ≤ length (now w)) ⌝ }
+    ensures { λ _. ⌜ Finishes (popped (now (w .entry)) at) n (answering (now (w .entry)) at m) (now (w .exit)) ⌝ }
 {
-    w[at] = a;
-    w[at + 1] = b;
-    w[at + 2] = c;
-    w[at + 3] = d;
+    let front = words::read_row(w, at);
+    let d = front.words;
+    queue_words::pop_at(w, at);
+    finish(w, n, m, d);
 }
 
-// The home's phase, its line, and the numbers of its control row.
-fn write_line(w: &mut [u64], phase: u64, line: Row, a: u64, b: u64, c: u64, d: u64)
-    requires { ⌜ 74 ≤ length (now w) ⌝ }
-    ensures { λ _. ⌜ now (w .exit) ≡ over (over (over (now (w .entry)) 1 (phase ∷ [])) 2 (rowWords line)) 14 (a ∷ b ∷ c ∷ d ∷ []) ⌝ }
-    ensures full { λ _. ⌜ length (line .words) ≡ 8 ⌝ }
+// A home move that answers the front message of the queue at place `at`, and takes it off.
+pub fn commit_with(w: &mut [u64], n: u64, v: u64, m: HomeMove, at: usize) -> Answer
+    requires { ⌜ (need n ≤ length (now w)) × (n ≤ 64) × (at + 24 ≤ length (now w)) ⌝ }
+    ensures { λ r. ⌜ Committed (now (w .entry)) (popped (now (w .entry)) at) n v (answering (now (w .entry)) at m) r (now (w .exit)) ⌝ }
 {
-    w[1] = phase;
-    words::write_row(w, 2, line);
-    write_numbers(w, 14, a, b, c, d);
-}
-
-// The home's new block where the step keeps what is of memory: only the rest is written.
-fn write_kept(w: &mut [u64], s: HomeStep)
-    requires { ⌜ (74 ≤ length (now w)) × Kept (homeAt (now w)) s ⌝ }
-    ensures { λ _. ⌜ now (w .exit) ≡ over (now (w .entry)) 0 (homeWords (s .home)) ⌝ }
-    ensures full { λ _. ⌜ HomeFull (s .home) ⌝ }
-{
-    let x = s.home;
-    let c = x.control;
-    write_line(w, x.phase, x.line, c.n0, c.n1, c.n2, c.n3);
-    if s.sent == 4 {
-        words::write_pair(w, 26, x.out);
-    } else {}
-}
-
-fn finish_kept(w: &mut [u64], n: u64, s: HomeStep)
-    requires { ⌜ (need n ≤ length (now w)) × (n ≤ 64) × Kept (homeAt (now w)) s ⌝ }
-    ensures { λ _. ⌜ now (w .exit) ≡ tellAll (over (now (w .entry)) 0 (homeWords (s .home))) 74 0 (s .to) (s .forward) n ⌝ }
-    ensures home { λ _. ⌜ HomeFull (s .home) ⌝ }
-    ensures row { λ _. ⌜ length (s .forward .words) ≡ 8 ⌝ }
-{
-    write_kept(w, s);
-    tell_all(w, n, s.to, s.forward);
-}
-
-// A home step that takes the front message off the queue at place `at`, and keeps what is of memory.
-pub fn commit_with(w: &mut [u64], n: u64, v: u64, s: HomeStep, at: usize) -> Answer
-    requires { ⌜ (need n ≤ length (now w)) × (n ≤ 64) × (74 ≤ at) × (at + 24 ≤ length (now w)) × Kept (homeAt (now w)) s ⌝ }
-    ensures { λ r. ⌜ Committed (now (w .entry)) (over (now (w .entry)) at (pairWords (pop (pairAt (now (w .entry)) at)))) n v s r (now (w .exit)) ⌝ }
-{
-    if s.refusal == 0 {
-        let free = rooms(w, n, s.to);
+    if m.refusal == 0 {
+        let free = rooms(w, n, m.to);
         if free {
-            tile_steps::pop_at(w, at);
-            finish_kept(w, n, s);
-            home_answer(s, v)
+            take_off(w, n, m, at);
+            move_answer(m, v)
         } else {
             bench_words::refused(9)
         }
     } else {
-        bench_words::refused(s.refusal)
+        bench_words::refused(m.refusal)
+    }
+}
+
+fn memory_answer() -> Answer
+    ensures { λ r. ⌜ r ≡ record { refusal = 0; kind = 3; value = 0; sent = 5; tiles = 0 } ⌝ }
+{
+    Answer {
+        refusal: 0,
+        kind: 3,
+        value: 0,
+        sent: 5,
+        tiles: 0,
+    }
+}
+
+// The memory's step, with its words d after it and the message m back.
+fn answer(w: &mut [u64], n: u64, d: [u64; 8], m: Row) -> Answer
+    requires { ⌜ (need n ≤ length (now w)) × (n ≤ 64) ⌝ }
+    ensures { λ r. ⌜ Committed (now (w .entry)) (now (w .entry)) n 0 (answer (homeAt (now (w .entry))) d m) r (now (w .exit)) ⌝ }
+{
+    let free = queue_words::room_at(w, 50);
+    if free {
+        home_words::step_at(w, d, m);
+        memory_answer()
+    } else {
+        bench_words::refused(9)
+    }
+}
+
+// The memory's step, by the front message to it.
+pub fn memory_step(w: &mut [u64], n: u64) -> Answer
+    requires { ⌜ (need n ≤ length (now w)) × (n ≤ 64) ⌝ }
+    ensures { λ r. ⌜ Committed (now (w .entry)) (now (w .entry)) n 0 (memoryStep (homeAt (now (w .entry)))) r (now (w .exit)) ⌝ }
+{
+    let k = w[26];
+    match k {
+        0 => bench_words::refused(7),
+        19 => {
+            let c = words::read_row(w, 14);
+            let d = c.words;
+            answer(w, n, d, queue_words::row(24, 0, 0, 0, d))
+        }
+        _ => {
+            let c = words::read_row(w, 26);
+            let d = c.words;
+            answer(w, n, d, queue_words::bare(25, 0, 0, 0))
+        }
     }
 }

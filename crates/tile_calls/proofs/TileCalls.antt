@@ -1,39 +1,38 @@
 -- The calls at one tile, on words: what the code does with the tile's block is document 01's step. Assumes nothing.
-use Prim.Native.Nat.{ℕ, suc, _+_, _-_, _*_, _%_, _^_, _≤_, _<_}
+use Prim.Native.Nat.{ℕ, suc, _+_, _*_, _%_, _^_, _≤_, _<_}
 use mathlib.Core.Path.{_≡_, refl, ap, sym, _∙_, subst}
 use mathlib.Core.Bool.{Bool, cond, true, false, false≢true}
-use mathlib.Core.List.{List, [], _∷_, _++_}
+use mathlib.Core.List.{List, [], _∷_}
 use mathlib.Core.Option.{Option, some, none, Option·map}
 use native.Mathlib.Omega.{arith}
 use lib.Dec.{eqb, ltb}
 use lib.ListN.{length, getD, set, drop, length-set}
 use lib.Seq.{getD-set-same, set-set}
 use borrow.Author.Tests.{lt-ltb, le-ltb, eq-eqb}
-use Rattle.bits.specs.Mask.{has, add, add64}
+use Rattle.bits.specs.Mask.{add, add64}
 use Rattle.bits.proofs.MaskLaws.{has-add}
 use Rattle.words.specs.declared.Row.{Row}
 use Rattle.words.specs.declared.TileBlock.{TileBlock}
 use Rattle.words.specs.Blocks as blocks
 use Rattle.words.specs.Blocks.{over, tileWords, homeAt, TileFull}
-use Rattle.protocol.specs.Parts.{Words, Queue, empty, one, two, Right, shared, exclusive, modified, Cache, invalid, valid, Waiting, nothing, forLoad, forStore, Request, Forward, loadFwd, storeFwd, invFwd, dataAck, Reply, Message, onNoc1, onNoc2, onNoc3, toMemory, fromMemory, ToMemory, FromMemory, Tile, tileOf, Home, Bench, benchOf, Call, load, store, evict, toTile, Result, refused, accepted}
+use Rattle.protocol.specs.Parts.{Words, Queue, empty, one, two, shared, exclusive, modified, Cache, invalid, valid, Waiting, nothing, forLoad, forStore, Request, Forward, Reply, Message, onNoc1, onNoc2, onNoc3, toMemory, fromMemory, ToMemory, FromMemory, Tile, tileOf, Home, Bench, benchOf, load, store, evict, toTile, Result, refused, accepted}
 use Rattle.protocol.specs.Tile as rules
 use Rattle.protocol.specs.Bench as bench
 use Rattle.protocol.specs.Bench.{tileAt, settle, atTile, sent, send, sendTo, sendOne, posted, onTile1, onTile3, step, atWord}
-use Rattle.codec.specs.Encode.{waitingWord, encHead, encTile, encHome, encode}
+use Rattle.codec.specs.Encode.{waitingWord, encHead, encTile}
 use Rattle.codec.specs.Decode.{decWaiting, decTile, decoded, benchFrom, decTiles}
 use Rattle.codec.specs.Sent.{sentOn, sentTo}
-use Rattle.codec.proofs.Canonical.{home-canonical}
-use Rattle.tile_steps.specs.declared.TileStep.{TileStep}
-use Rattle.tile_steps.specs.declared.Told.{Told}
-use Rattle.tile_steps.specs.InPlace.{Stepped}
-use Rattle.tile_steps.proofs.InPlace.{put-same}
-use Rattle.tile_steps.specs.Steps.{refuse, done, loadOn, storeOn, evictOn, deliverOn, tileStepOn}
+use Rattle.tile_parts.specs.declared.TileStep.{TileStep}
+use Rattle.tile_parts.specs.declared.Told.{Told}
+use Rattle.tile_parts.specs.InPlace.{Stepped}
+use Rattle.tile_parts.proofs.InPlace.{put-same}
+use Rattle.tile_parts.specs.Steps.{loadOn, storeOn, evictOn, deliverOn, tileStepOn}
 use Rattle.tile_steps.proofs.Rules.{ownOne, ownTo, ownAll, encAfter, encStep, load-rule, store-rule, evict-rule, deliver-rule}
 use Rattle.bench_words.specs.declared.Answer.{Answer}
 use Rattle.bench_words.specs.Calls.{need, wellFormed, stepOn, answerOf, wordsAfter, refusal, tileCall}
-use Rattle.bench_words.proofs.Laid.{Laid, laid-tile, write-tile, laid-encode}
+use Rattle.bench_words.proofs.Laid.{Laid, laid-tile, write-tile}
 use Rattle.bench_words.proofs.Meets.{Meets}
-use Rattle.bench_words.proofs.Decoded.{Found, found, count, laid-out, encoded}
+use Rattle.bench_words.proofs.Decoded.{found, count, laid-out, encoded}
 
 -- a rule's messages are on the tile's own queues, and its refusal is no 0
 abbrev Own : ℕ → List Message → Type 0

@@ -1,6 +1,6 @@
 -- The steps in numbers are document 01's rules, read through the codec: one list of clauses for each call. Assumes nothing.
 use Prim.Native.Nat.{ℕ}
-use mathlib.Core.Path.{_≡_, refl, sym, ap, _∙_}
+use mathlib.Core.Path.{_≡_, refl, sym, _∙_}
 use mathlib.Core.Bool.{Bool, cond, true, false}
 use mathlib.Core.List.{List, [], _∷_}
 use mathlib.Core.Option.{Option, some, none, Option·map}
@@ -9,13 +9,14 @@ use lib.ListN.{getD, set}
 use Rattle.words.specs.declared.Row.{Row}
 use Rattle.words.specs.declared.Pair.{Pair}
 use Rattle.words.specs.declared.TileBlock.{TileBlock}
-use Rattle.protocol.specs.Parts.{Words, Queue, empty, one, two, Right, shared, exclusive, modified, Cache, invalid, valid, Waiting, nothing, forLoad, forStore, Request, loadReq, storeReq, wbGuardReq, Forward, loadFwd, storeFwd, invFwd, dataAck, Reply, wbReq, loadFwdAckS, loadFwdAckI, storeFwdAck, invFwdAck, ToMemory, FromMemory, Message, onNoc1, onNoc2, onNoc3, toMemory, fromMemory, Tile, tileOf, Result, refused, accepted}
+use Rattle.protocol.specs.Parts.{Words, Queue, empty, one, two, Right, shared, exclusive, modified, Cache, invalid, valid, Waiting, nothing, forLoad, forStore, Request, loadReq, storeReq, wbGuardReq, Forward, loadFwd, storeFwd, invFwd, dataAck, Reply, wbReq, loadFwdAckS, loadFwdAckI, storeFwdAck, invFwdAck, Message, onNoc1, onNoc2, onNoc3, toMemory, fromMemory, Tile, tileOf, Result, refused, accepted}
 use Rattle.protocol.specs.Tile as rules
 use Rattle.protocol.specs.Bench as bench
-use Rattle.codec.specs.Encode.{zeros, row, noRow, rightNumber, flag, encRequest, encForward, encReply, encQueue, stateNumber, cacheWords, waitingNumber, waitingWord, waitingValue, encHead, encTile}
+use Rattle.codec.specs.Encode.{row, rightNumber, encRequest, encForward, encReply, encQueue, stateNumber, cacheWords, waitingNumber, waitingWord, waitingValue, encHead, encTile}
 use Rattle.codec.specs.Sent.{sentOn}
-use Rattle.tile_steps.specs.declared.TileStep.{TileStep}
-use Rattle.tile_steps.specs.Steps.{refuse, done, room, push, pop, headed, asks, loadOn, storeOn, dropped, writesBack, evictOn, answers, fills, onLoadFwd, onStoreFwd, onInvFwd, onForward, onStoreFill, onLoadFill, onDataAck, deliverOn}
+use Rattle.queue_words.specs.Queues.{room, push, pop}
+use Rattle.tile_parts.specs.declared.TileStep.{TileStep}
+use Rattle.tile_parts.specs.Steps.{refuse, done, headed, asks, loadOn, storeOn, dropped, writesBack, evictOn, answers, fills, onLoadFwd, onStoreFwd, onInvFwd, onForward, onStoreFill, onLoadFill, onDataAck, deliverOn}
 
 -- what a tile sends goes onto its own queues
 unfoldable pub ownOne : Message → Tile → Option Tile

@@ -1,7 +1,7 @@
 -- The tests of acks, of a tile's head and of the home's block are those by encoding anew. Assumes nothing.
 use Prim.Native.Nat.{ℕ, _+_, _%_, _^_}
 use mathlib.Core.Path.{_≡_, refl, ap, sym}
-use mathlib.Core.Bool.{Bool, cond, true, false, _&&_}
+use mathlib.Core.Bool.{Bool, true, false, _&&_}
 use mathlib.Core.List.{List}
 use lib.Dec.{eqb}
 use lib.ListN.{getD}
@@ -11,11 +11,11 @@ use Rattle.words.specs.declared.Row.{Row}
 use Rattle.words.specs.declared.HomeBlock.{HomeBlock}
 use Rattle.words.specs.Blocks.{rowAt, pairAt}
 use Rattle.protocol.specs.Parts.{Home}
-use Rattle.codec.specs.Encode.{row, encRequest, encReply, encHead, stateNumber, cacheWords, waitingNumber, waitingWord, waitingValue, phaseNumber, requester, owedTiles, encLine, lineOf}
+use Rattle.codec.specs.Encode.{encRequest, encReply, encHead, stateNumber, cacheWords, waitingNumber, waitingWord, waitingValue, phaseNumber, requester, owedTiles, encLine, lineOf}
 use Rattle.codec.specs.Decode.{decRequest, decReply, ackData, decCache, decWaiting, decHome}
 use Rattle.codec.specs.Same.{same, sameRow, samePair, canonQueue, canonControl, homeOk}
-use Rattle.word_tests.specs.Parts.{noneAt, queuesOk, clearBehind, bare, requestWordOk, ackDataOk, loadAckOk, storeAckOk, cacheOk, waitingOk, heldOk, phaseOk}
-use Rattle.word_tests.proofs.Laws.{or-none, flip, and-true, and-false, and-assoc, zero-left, one-left, same-self}
+use Rattle.word_tests.specs.Parts.{noneAt, queuesOk, memoryOk, clearBehind, bare, requestWordOk, ackDataOk, loadAckOk, storeAckOk, cacheOk, waitingOk, heldOk, phaseOk}
+use Rattle.word_tests.proofs.Laws.{or-none, flip, and-true, and-false, zero-left, one-left, same-self}
 
 pub request : (r : Row) → (requestWordOk (r .n0) (r .n1) && clearBehind r) ≡ sameRow (encRequest (decRequest r)) r
 unfolding requestWordOk clearBehind sameRow encRequest decRequest
@@ -90,3 +90,10 @@ queues-none l i h =
     let p = or-none (bitOr (getD l i 0) (getD l (i + 24) 0)) (getD l (i + 48) 0) h in
     let q = or-none (getD l i 0) (getD l (i + 24) 0) (p .0) in
     rw (queue-none 1 l i (q .0), queue-none 2 l (i + 24) (q .1), queue-none 3 l (i + 48) (p .1))
+
+-- and the two of memory
+pub memory-none : (l : List ℕ) → bitOr (getD l 26 0) (getD l 50 0) ≡ 0 → (noneAt l 26 && noneAt l 50) ≡ memoryOk l
+unfolding memoryOk
+memory-none l h =
+    let p = or-none (getD l 26 0) (getD l 50 0) h in
+    rw (queue-none 4 l 26 (p .0), queue-none 5 l 50 (p .1))

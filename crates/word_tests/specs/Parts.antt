@@ -19,6 +19,10 @@ queuesOk l i =
     samePair (canonQueue 1 (pairAt l i)) (pairAt l i)
     && (samePair (canonQueue 2 (pairAt l (i + 24))) (pairAt l (i + 24)) && samePair (canonQueue 3 (pairAt l (i + 48))) (pairAt l (i + 48)))
 
+-- the queues to and from memory
+unfoldable pub memoryOk : List ℕ → Bool
+memoryOk l = samePair (canonQueue 4 (pairAt l 26)) (pairAt l 26) && samePair (canonQueue 5 (pairAt l 50)) (pairAt l 50)
+
 -- all behind the word number is 0
 unfoldable pub clearBehind : Row → Bool
 clearBehind r = eqb 0 (r .n2) && (eqb 0 (r .n3) && same zeros (r .words))

@@ -1,10 +1,10 @@
-// The lent words of a bench, read and written a block at a time. A block is made of rows: four numbers and eight words.
+// The lent words of a bench, read a row or a pair at a time, and written a block at a time. A block is made of rows: four numbers and eight words.
 // A message is a row, and a queue (01's way) a pair of rows; what each number is stands in docs/LAYOUT.md.
 ghost use mathlib.Core.Path.{_≡_};
 ghost use Prim.Native.Nat.{_+_, _≤_};
 ghost use lib.ListN.{length};
 ghost use mathlib.Core.List.{_∷_, []};
-ghost use Rattle.words.specs.Blocks.{rowAt, pairAt, tileAt, homeAt, over, rowWords, pairWords, tileWords, homeWords, PairFull, TileFull, HomeFull};
+ghost use Rattle.words.specs.Blocks.{rowAt, pairAt, over, rowWords, pairWords, tileWords, homeWords, PairFull, TileFull, HomeFull};
 
 pub struct Row {
     pub n0: u64,
@@ -66,32 +66,6 @@ pub fn read_pair(w: &[u64], at: usize) -> Pair
     Pair {
         a: read_row(w, at),
         b: read_row(w, at + 12),
-    }
-}
-
-pub fn read_tile(w: &[u64], at: usize) -> TileBlock
-    requires { ⌜ at + 84 ≤ length (now w) ⌝ }
-    ensures { λ r. ⌜ r ≡ tileAt (now (w .entry)) at ⌝ }
-{
-    TileBlock {
-        head: read_row(w, at),
-        noc1: read_pair(w, at + 12),
-        noc2: read_pair(w, at + 36),
-        noc3: read_pair(w, at + 60),
-    }
-}
-
-pub fn read_home(w: &[u64]) -> HomeBlock
-    requires { ⌜ 74 ≤ length (now w) ⌝ }
-    ensures { λ r. ⌜ r ≡ homeAt (now (w .entry)) ⌝ }
-{
-    HomeBlock {
-        tiles: w[0],
-        phase: w[1],
-        line: read_row(w, 2),
-        control: read_row(w, 14),
-        out: read_pair(w, 26),
-        back: read_pair(w, 50),
     }
 }
 

@@ -1,8 +1,6 @@
-use Prim.Native.Nat.{_<_}
-use mathlib.Core.Path.{ap, sym, _∙_}
+use mathlib.Core.Path.{refl, sym, _∙_}
 use native.Mathlib.Omega.{arith}
 use Rattle.bench_words.specs.Calls.{homeCall}
-use Rattle.home_calls.specs.Taken.{homeStepOn}
 use Rattle.bench_words.proofs.Decoded.{found}
 use Rattle.bench_words.proofs.Meets.{malformed}
 use Rattle.home_calls.proofs.HomeCalls.{home-done, home-early}
@@ -16,18 +14,13 @@ slice-read-n c = omega (arith, found _ (sym (c .before .before .well-formed .ens
 refusal-of-requires : tie.Need-refusal-of-requires
 refusal-of-requires c κs = omega (arith, found _ (sym (c .before .before .before .well-formed .ensures) ∙ c .before .before .if1 .taken) .long)
 
-read-home-requires : tie.Need-read-home-requires
-read-home-requires c κs = omega (arith, found _ (sym (c .before .before .before .before .before .before .well-formed .ensures) ∙ c .before .before .before .before .before .if1 .taken) .long)
-
-commit-requires : tie.Need-commit-requires
-commit-requires c κs =
-    let f = found _ (sym (c .before .before .before .before .before .before .before .before .before .well-formed .ensures) ∙ c .before .before .before .before .before .before .before .before .if1 .taken) in
-    (f .enough, f .most)
+home-step-requires : tie.Need-home-step-requires
+home-step-requires c κs = (found _ (sym (c .before .before .before .before .before .before .well-formed .ensures) ∙ c .before .before .before .before .before .if1 .taken) .enough, found _ (sym (c .before .before .before .before .before .before .well-formed .ensures) ∙ c .before .before .before .before .before .if1 .taken) .most)
 
 returns : tie.Need-returns
 returns c =
-    let a = c .before .before .before .before .before .before .before .before .before .before .before .before .before .before .before .args in
-    let m = home-done (a .w .now) (sym (c .before .before .before .before .before .before .before .before .before .before .before .before .well-formed .ensures) ∙ c .before .before .before .before .before .before .before .before .before .before .before .if1 .taken) (a .c) _ (c .before .before .before .before .home-step .ensures ∙ ap (homeStepOn (a .c)) (c .before .before .before .before .before .read-home .ensures)) _ _ (c .before .before .commit .ensures) in
+    let a = c .before .before .before .before .before .before .before .before .before .before .before .before .args in
+    let m = home-done (a .w .now) (sym (c .before .before .before .before .before .before .before .before .before .well-formed .ensures) ∙ c .before .before .before .before .before .before .before .before .if1 .taken) (a .c) _ refl _ _ (c .before .before .home-step .ensures) in
     (m .answer, m .words)
 
 returns-2 : tie.Need-returns-2
@@ -49,9 +42,7 @@ at-home-spec =
     (λ c κs. search needs)
     slice-read-n
     refusal-of-requires
-    read-home-requires
-    (λ c κs. search needs)
-    commit-requires
+    home-step-requires
     (λ c κs. search needs)
     (λ c κs. search needs)
     (λ c. search needs)

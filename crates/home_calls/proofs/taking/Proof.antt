@@ -1,4 +1,3 @@
-use Prim.Native.Nat.{_<_}
 use mathlib.Core.Path.{_≡_, _∙_}
 use mathlib.Core.Bool.{true, false}
 use native.Mathlib.Omega.{arith}
@@ -6,7 +5,6 @@ use Rattle.protocol.specs.Parts.{taking}
 use Rattle.bench_words.specs.Calls.{wellFormed}
 use Rattle.bench_words.proofs.Decoded.{found}
 use Rattle.bench_words.proofs.Meets.{malformed}
-use Rattle.home_calls.proofs.Keeps.{kept-take}
 use Rattle.home_calls.proofs.HomeCalls.{formed, last-there, small-there, take-there, nobody-there, busy-there}
 use borrow.Author.Needs.{needs}
 use Rattle.home_calls.proofs.taking.Statement.{statement}
@@ -40,15 +38,15 @@ choose-requires c κs =
     let wf : wellFormed l ≡ true = formed l (sv .result) true (sv .ensures) (c .before .before .before .before .if1 .taken) in
     omega (arith, last-there l wf, found l wf .most)
 
-read-home-requires : tie.Need-read-home-requires
-read-home-requires c κs =
+numbers-in-requires : tie.Need-numbers-in-requires
+numbers-in-requires c κs =
     let l = c .before .before .before .before .before .before .before .before .before .before .before .args .w .now in
     let sv = c .before .before .before .before .before .before .before .before .survey-of in
     let wf : wellFormed l ≡ true = formed l (sv .result) true (sv .ensures) (c .before .before .before .before .before .before .before .if1 .taken) in
     omega (arith, found l wf .long)
 
-read-row-requires : tie.Need-read-row-requires
-read-row-requires c κs =
+slice-read-take : tie.Need-slice-read-take
+slice-read-take c =
     let l = c .before .before .before .before .before .before .before .before .before .before .before .before .before .args .w .now in
     let sv = c .before .before .before .before .before .before .before .before .before .before .survey-of in
     let wf : wellFormed l ≡ true = formed l (sv .result) true (sv .ensures) (c .before .before .before .before .before .before .before .before .before .if1 .taken) in
@@ -57,20 +55,20 @@ read-row-requires c κs =
 
 commit-with-requires : tie.Need-commit-with-requires
 commit-with-requires c κs =
-    let l = c .before .before .before .before .before .before .before .before .before .before .before .before .before .before .before .before .args .w .now in
-    let sv = c .before .before .before .before .before .before .before .before .before .before .before .before .before .survey-of in
-    let wf : wellFormed l ≡ true = formed l (sv .result) true (sv .ensures) (c .before .before .before .before .before .before .before .before .before .before .before .before .if1 .taken) in
-    let t = c .before .before .before .before .before .before .before .choose in
-    (found l wf .enough, found l wf .most, omega arith, omega (arith, found l wf .enough, small-there l wf (sv .result) (sv .ensures) (t .result) (t .ensures) (c .before .before .before .before .before .before .if3 .taken)), kept-take _ _ (c .before .before .before .before .read-home .ensures) _ _ _ (c .before .take .ensures))
+    let l = c .before .before .before .before .before .before .before .before .before .before .before .before .before .before .before .args .w .now in
+    let sv = c .before .before .before .before .before .before .before .before .before .before .before .before .survey-of in
+    let wf : wellFormed l ≡ true = formed l (sv .result) true (sv .ensures) (c .before .before .before .before .before .before .before .before .before .before .before .if1 .taken) in
+    let t = c .before .before .before .before .before .before .choose in
+    (found l wf .enough, found l wf .most, omega (arith, found l wf .enough, small-there l wf (sv .result) (sv .ensures) (t .result) (t .ensures) (c .before .before .before .before .before .if3 .taken)))
 
 returns : tie.Need-returns
 returns c =
-    let l = c .before .before .before .before .before .before .before .before .before .before .before .before .before .before .before .before .before .before .before .args .w .now in
-    let sv = c .before .before .before .before .before .before .before .before .before .before .before .before .before .before .before .before .survey-of in
-    let wf : wellFormed l ≡ true = formed l (sv .result) true (sv .ensures) (c .before .before .before .before .before .before .before .before .before .before .before .before .before .before .before .if1 .taken) in
-    let t = c .before .before .before .before .before .before .before .before .before .before .choose in
-    let h = c .before .before .before .before .before .before .before .read-home in
-    let m = take-there l wf (sv .result) (sv .ensures) (t .result) (t .ensures) (h .result) (h .ensures) _ _ _ _ (c .before .before .before .before .before .before .before .before .before .before .before .before .if2 .taken) (c .before .before .before .before .before .before .before .before .before .if3 .taken) (c .before .before .before .before .before .read-row .ensures) (c .before .before .before .before .take .ensures) (c .before .before .commit-with .ensures) in
+    let l = c .before .before .before .before .before .before .before .before .before .before .before .before .before .before .before .before .before .before .args .w .now in
+    let sv = c .before .before .before .before .before .before .before .before .before .before .before .before .before .before .before .survey-of in
+    let wf : wellFormed l ≡ true = formed l (sv .result) true (sv .ensures) (c .before .before .before .before .before .before .before .before .before .before .before .before .before .before .if1 .taken) in
+    let t = c .before .before .before .before .before .before .before .before .before .choose in
+    let x = c .before .before .before .before .before .before .numbers-in in
+    let m = take-there l wf (sv .result) (sv .ensures) (t .result) (t .ensures) (x .result) (x .ensures) _ _ _ (c .before .before .before .before .before .before .before .before .before .before .before .if2 .taken) (c .before .before .before .before .before .before .before .before .if3 .taken) (c .before .before .before .before .take .ensures) (c .before .before .commit-with .ensures) in
     (m .answer, m .words)
 
 returns-2 : tie.Need-returns-2
@@ -108,11 +106,11 @@ taking-spec =
     choose-requires
     (λ c. search needs)
     (λ c. search needs)
-    read-home-requires
     (λ c. search needs)
-    read-row-requires
+    numbers-in-requires
+    (λ c. search needs)
+    slice-read-take
     (λ c κs. search needs)
-    (λ c. search needs)
     commit-with-requires
     (λ c κs. search needs)
     (λ c κs. search needs)

@@ -1,6 +1,5 @@
-use mathlib.Core.Path.{refl}
-use borrow.Author.Tests.{eq-eqb, ne-eqb, lt-ltb, le-ltb, le-leb, lt-leb}
-use Rattle.home_parts.specs.Numbers.{ownRight}
+use borrow.Author.Tests.{eq-eqb, ne-eqb}
+use Rattle.home_parts.specs.Moves.{ownRight}
 use Rattle.home_parts.proofs.own_right.Statement.{statement}
 use Rattle.home_parts.proofs.own_right.Tie as tie
 

@@ -1,13 +1,11 @@
-use mathlib.Core.Path.{refl}
-use borrow.Author.Tests.{eq-eqb, ne-eqb, lt-ltb, le-ltb, le-leb, lt-leb}
-use Rattle.home_parts.specs.Numbers.{setHome}
+use Rattle.home_parts.specs.Moves.{setHome}
 use borrow.Author.Needs.{needs}
 use Rattle.home_parts.proofs.set_home.Statement.{statement}
 use Rattle.home_parts.proofs.set_home.Tie as tie
 
 returns : tie.Need-returns
 unfolding setHome
-returns c = simp (c .block .ensures, c .before .row .ensures)
+returns c = simp (c .numbers .ensures)
 
 pub set-home-spec : {M : Type 1} → statement M
-set-home-spec = tie.close (tie.spec (λ c κs. search needs) (λ c κs. search needs) returns)
+set-home-spec = tie.close (tie.spec (λ c κs. search needs) returns)

@@ -1,6 +1,5 @@
-use mathlib.Core.Path.{refl}
-use borrow.Author.Tests.{eq-eqb, ne-eqb, lt-ltb, le-ltb, le-leb, lt-leb}
-use Rattle.home_parts.specs.Numbers.{ackDirty}
+use borrow.Author.Tests.{eq-eqb, ne-eqb}
+use Rattle.home_parts.specs.Moves.{ackDirty}
 use Rattle.home_replies.proofs.ack_dirty.Statement.{statement}
 use Rattle.home_replies.proofs.ack_dirty.Tie as tie
 

@@ -1,6 +1,5 @@
-use mathlib.Core.Path.{refl}
-use borrow.Author.Tests.{eq-eqb, ne-eqb, lt-ltb, le-ltb, le-leb, lt-leb}
-use Rattle.home_parts.specs.Numbers.{cleared}
+use borrow.Author.Tests.{eq-eqb, ne-eqb}
+use Rattle.home_parts.specs.Moves.{cleared}
 use borrow.Author.Needs.{needs}
 use Rattle.home_replies.proofs.cleared.Statement.{statement}
 use Rattle.home_replies.proofs.cleared.Tie as tie

@@ -1,6 +1,5 @@
-use mathlib.Core.Path.{refl}
-use borrow.Author.Tests.{eq-eqb, ne-eqb, lt-ltb, le-ltb, le-leb, lt-leb}
-use Rattle.home_parts.specs.Numbers.{invAck}
+use borrow.Author.Tests.{ne-eqb}
+use Rattle.home_parts.specs.Moves.{invAck}
 use borrow.Author.Needs.{needs}
 use Rattle.home_replies.proofs.inv_ack.Statement.{statement}
 use Rattle.home_replies.proofs.inv_ack.Tie as tie

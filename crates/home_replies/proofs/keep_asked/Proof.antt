@@ -1,6 +1,5 @@
-use mathlib.Core.Path.{refl}
-use borrow.Author.Tests.{eq-eqb, ne-eqb, lt-ltb, le-ltb, le-leb, lt-leb}
-use Rattle.home_parts.specs.Numbers.{keepAsked}
+use borrow.Author.Tests.{eq-eqb, ne-eqb}
+use Rattle.home_parts.specs.Moves.{keepAsked}
 use borrow.Author.Needs.{needs}
 use Rattle.home_replies.proofs.keep_asked.Statement.{statement}
 use Rattle.home_replies.proofs.keep_asked.Tie as tie

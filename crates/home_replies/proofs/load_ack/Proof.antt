@@ -1,17 +1,16 @@
-use mathlib.Core.Path.{refl}
-use borrow.Author.Tests.{eq-eqb, ne-eqb, lt-ltb, le-ltb, le-leb, lt-leb}
-use Rattle.home_parts.specs.Numbers.{loadAck}
+use borrow.Author.Tests.{eq-eqb, ne-eqb}
+use Rattle.home_parts.specs.Moves.{loadAck}
 use borrow.Author.Needs.{needs}
 use Rattle.home_replies.proofs.load_ack.Statement.{statement}
 use Rattle.home_replies.proofs.load_ack.Tie as tie
 
 returns : tie.Need-returns
 unfolding loadAck
-returns c = simp (c .grant .ensures, eq-eqb _ _ (c .before .if3 .taken), eq-eqb _ _ (c .before .before .before .if2 .taken), eq-eqb _ _ (c .before .before .before .before .before .if1 .taken))
+returns c = simp (c .grant .ensures, eq-eqb _ _ (c .before .if3 .taken), eq-eqb _ _ (c .before .before .if2 .taken), eq-eqb _ _ (c .before .before .before .before .if1 .taken))
 
 returns-2 : tie.Need-returns-2
 unfolding loadAck
-returns-2 c = simp (c .shared-now .ensures, ne-eqb _ _ (c .before .if3 .left), eq-eqb _ _ (c .before .before .before .if2 .taken), eq-eqb _ _ (c .before .before .before .before .before .if1 .taken))
+returns-2 c = simp (c .shared-now .ensures, ne-eqb _ _ (c .before .if3 .left), eq-eqb _ _ (c .before .before .if2 .taken), eq-eqb _ _ (c .before .before .before .before .if1 .taken))
 
 returns-3 : tie.Need-returns-3
 unfolding loadAck

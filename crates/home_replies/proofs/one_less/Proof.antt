@@ -1,6 +1,5 @@
-use mathlib.Core.Path.{refl}
-use borrow.Author.Tests.{eq-eqb, ne-eqb, lt-ltb, le-ltb, le-leb, lt-leb}
-use Rattle.home_parts.specs.Numbers.{oneLess}
+use borrow.Author.Tests.{eq-eqb, ne-eqb}
+use Rattle.home_parts.specs.Moves.{oneLess}
 use borrow.Author.Needs.{needs}
 use Rattle.home_replies.proofs.one_less.Statement.{statement}
 use Rattle.home_replies.proofs.one_less.Tie as tie

@@ -1,6 +1,5 @@
 use mathlib.Core.Path.{sym, _∙_}
-use borrow.Author.Tests.{eq-eqb, ne-eqb, lt-ltb, le-ltb, le-leb, lt-leb}
-use Rattle.home_parts.specs.Numbers.{owedAck}
+use Rattle.home_parts.specs.Moves.{owedAck}
 use borrow.Author.Needs.{needs}
 use Rattle.home_replies.proofs.owed_ack.Statement.{statement}
 use Rattle.home_replies.proofs.owed_ack.Tie as tie

@@ -1,13 +1,12 @@
-use mathlib.Core.Path.{refl}
-use borrow.Author.Tests.{eq-eqb, ne-eqb, lt-ltb, le-ltb, le-leb, lt-leb}
-use Rattle.home_parts.specs.Numbers.{ownedNow}
+use borrow.Author.Tests.{eq-eqb, ne-eqb}
+use Rattle.home_parts.specs.Moves.{ownedNow}
 use borrow.Author.Needs.{needs}
 use Rattle.home_replies.proofs.owned_now.Statement.{statement}
 use Rattle.home_replies.proofs.owned_now.Tie as tie
 
 returns : tie.Need-returns
 unfolding ownedNow
-returns c = simp (c .grant .ensures, c .before .ack-words .ensures, c .before .before .ack-dirty .ensures, eq-eqb _ _ (c .before .before .before .if1 .taken))
+returns c = simp (c .grant .ensures, c .before .ack-source .ensures, c .before .before .ack-dirty .ensures, eq-eqb _ _ (c .before .before .before .if1 .taken))
 
 returns-2 : tie.Need-returns-2
 unfolding ownedNow

@@ -1,6 +1,5 @@
-use mathlib.Core.Path.{refl}
-use borrow.Author.Tests.{eq-eqb, ne-eqb, lt-ltb, le-ltb, le-leb, lt-leb}
-use Rattle.home_parts.specs.Numbers.{storeAck}
+use borrow.Author.Tests.{ne-eqb}
+use Rattle.home_parts.specs.Moves.{storeAck}
 use borrow.Author.Needs.{needs}
 use Rattle.home_replies.proofs.store_ack.Statement.{statement}
 use Rattle.home_replies.proofs.store_ack.Tie as tie

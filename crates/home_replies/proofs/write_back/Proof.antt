@@ -1,6 +1,5 @@
 use mathlib.Core.Path.{sym, _∙_}
-use borrow.Author.Tests.{eq-eqb, ne-eqb, lt-ltb, le-ltb, le-leb, lt-leb}
-use Rattle.home_parts.specs.Numbers.{writeBack}
+use Rattle.home_parts.specs.Moves.{writeBack}
 use borrow.Author.Needs.{needs}
 use Rattle.home_replies.proofs.write_back.Statement.{statement}
 use Rattle.home_replies.proofs.write_back.Tie as tie

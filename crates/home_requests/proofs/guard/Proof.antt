@@ -1,6 +1,4 @@
-use mathlib.Core.Path.{refl}
-use borrow.Author.Tests.{eq-eqb, ne-eqb, lt-ltb, le-ltb, le-leb, lt-leb}
-use Rattle.home_parts.specs.Numbers.{guard}
+use Rattle.home_parts.specs.Moves.{guard}
 use borrow.Author.Needs.{needs}
 use Rattle.home_requests.proofs.guard.Statement.{statement}
 use Rattle.home_requests.proofs.guard.Tie as tie

@@ -1,6 +1,5 @@
-use mathlib.Core.Path.{refl}
-use borrow.Author.Tests.{eq-eqb, ne-eqb, lt-ltb, le-ltb, le-leb, lt-leb}
-use Rattle.home_parts.specs.Numbers.{serve}
+use borrow.Author.Tests.{eq-eqb, ne-eqb}
+use Rattle.home_parts.specs.Moves.{serve}
 use borrow.Author.Needs.{needs}
 use Rattle.home_requests.proofs.serve.Statement.{statement}
 use Rattle.home_requests.proofs.serve.Tie as tie
@@ -11,7 +10,7 @@ returns c = simp (c .load-line .ensures, eq-eqb _ _ (c .before .if1 .taken))
 
 returns-2 : tie.Need-returns-2
 unfolding serve
-returns-2 c = simp (c .serve-line .ensures, c .before .set-taken .ensures, ne-eqb _ _ (c .before .before .before .if1 .left))
+returns-2 c = simp (c .serve-line .ensures, c .before .set-taken .ensures, ne-eqb _ _ (c .before .before .if1 .left))
 
 pub serve-spec : {M : Type 1} → statement M
 serve-spec =

@@ -1,6 +1,5 @@
-use mathlib.Core.Path.{refl}
-use borrow.Author.Tests.{eq-eqb, ne-eqb, lt-ltb, le-ltb, le-leb, lt-leb}
-use Rattle.home_parts.specs.Numbers.{serveLine}
+use borrow.Author.Tests.{ne-eqb}
+use Rattle.home_parts.specs.Moves.{serveLine}
 use borrow.Author.Needs.{needs}
 use Rattle.home_requests.proofs.serve_line.Statement.{statement}
 use Rattle.home_requests.proofs.serve_line.Tie as tie

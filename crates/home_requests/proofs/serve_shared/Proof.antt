@@ -1,6 +1,6 @@
 use mathlib.Core.Path.{sym, _∙_}
-use borrow.Author.Tests.{eq-eqb, ne-eqb, lt-ltb, le-ltb, le-leb, lt-leb}
-use Rattle.home_parts.specs.Numbers.{serveShared}
+use borrow.Author.Tests.{eq-eqb, ne-eqb}
+use Rattle.home_parts.specs.Moves.{serveShared}
 use borrow.Author.Needs.{needs}
 use Rattle.home_requests.proofs.serve_shared.Statement.{statement}
 use Rattle.home_requests.proofs.serve_shared.Tie as tie

@@ -1,13 +1,12 @@
-use mathlib.Core.Path.{refl}
-use borrow.Author.Tests.{eq-eqb, ne-eqb, lt-ltb, le-ltb, le-leb, lt-leb}
-use Rattle.home_parts.specs.Numbers.{drop}
+use borrow.Author.Tests.{eq-eqb, ne-eqb}
+use Rattle.home_parts.specs.Moves.{drop}
 use borrow.Author.Needs.{needs}
 use Rattle.home_steps.proofs.drop.Statement.{statement}
 use Rattle.home_steps.proofs.drop.Tie as tie
 
 returns : tie.Need-returns
 unfolding drop
-returns c = simp (c .quiet .ensures, c .before .set-home .ensures, c .before .before .bare .ensures, c .before .before .before .acked .ensures, eq-eqb _ _ (c .before .before .before .before .if1 .taken))
+returns c = simp (c .quiet .ensures, c .before .set-home .ensures, eq-eqb _ _ (c .before .before .if1 .taken))
 
 returns-2 : tie.Need-returns-2
 unfolding drop
@@ -17,8 +16,6 @@ pub drop-spec : {M : Type 1} → statement M
 drop-spec =
     tie.close
     (tie.spec
-    (λ c κs. search needs)
-    (λ c κs. search needs)
     (λ c κs. search needs)
     (λ c κs. search needs)
     (λ c κs. search needs)

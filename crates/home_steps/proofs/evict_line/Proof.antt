@@ -1,6 +1,5 @@
-use mathlib.Core.Path.{refl}
-use borrow.Author.Tests.{eq-eqb, ne-eqb, lt-ltb, le-ltb, le-leb, lt-leb}
-use Rattle.home_parts.specs.Numbers.{evictLine}
+use borrow.Author.Tests.{eq-eqb, ne-eqb}
+use Rattle.home_parts.specs.Moves.{evictLine}
 use borrow.Author.Needs.{needs}
 use Rattle.home_steps.proofs.evict_line.Statement.{statement}
 use Rattle.home_steps.proofs.evict_line.Tie as tie

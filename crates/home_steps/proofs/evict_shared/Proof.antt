@@ -1,6 +1,5 @@
-use mathlib.Core.Path.{refl}
-use borrow.Author.Tests.{eq-eqb, ne-eqb, lt-ltb, le-ltb, le-leb, lt-leb}
-use Rattle.home_parts.specs.Numbers.{evictShared}
+use borrow.Author.Tests.{eq-eqb, ne-eqb}
+use Rattle.home_parts.specs.Moves.{evictShared}
 use borrow.Author.Needs.{needs}
 use Rattle.home_steps.proofs.evict_shared.Statement.{statement}
 use Rattle.home_steps.proofs.evict_shared.Tie as tie

@@ -1,5 +1,5 @@
 use Prim.Native.Nat.{ℕ, _+_, _-_, _*_, _≤_, _<_}
-use mathlib.Core.Path.{_≡_, refl, ap, sym, subst, _∙_}
+use mathlib.Core.Path.{_≡_, ap, sym, subst, _∙_}
 use mathlib.Core.Bool.{Bool, true, _&&_}
 use native.Mathlib.Omega.{arith}
 use borrow.Author.Needs.{needs}
@@ -7,7 +7,7 @@ use Rattle.bits.specs.Mask.{has}
 use Rattle.find_first.specs.Next.{next}
 use Rattle.find_first.proofs.NextLaws.{next-in, next-from}
 use Rattle.words.specs.Blocks.{tileAt}
-use Rattle.tile_steps.specs.Steps.{room}
+use Rattle.queue_words.specs.Queues.{room}
 use Rattle.posts.specs.Post.{rooms}
 use Rattle.posts.proofs.Turns.{rooms-skip, rooms-turn, rooms-end}
 use Rattle.posts.proofs.rooms.Statement.{statement}

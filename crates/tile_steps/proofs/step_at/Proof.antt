@@ -1,5 +1,3 @@
-use mathlib.Core.Path.{_≡_, refl, sym, _∙_}
-use Rattle.words.specs.Blocks.{tileAt, pairAt, rowAt}
 use Rattle.tile_steps.proofs.InPlace.{step-deliver, step-evict, step-load, step-store}
 use borrow.Author.Needs.{needs}
 use Rattle.tile_steps.proofs.step_at.Statement.{statement}

@@ -1,0 +1,91 @@
+-- Parts of the words written in place: what stands before and behind them is as it was. Assumes nothing.
+use Prim.Native.Nat.{ℕ, _+_, _≤_, _<_}
+use mathlib.Core.Path.{_≡_, refl, ap, sym, _∙_}
+use mathlib.Core.List.{List, [], _∷_, _++_, append-assoc}
+use native.Mathlib.Omega.{arith}
+use lib.ListN.{length, getD, set, take, drop, length-append, length-take, length-drop, length-set, take-append-drop}
+use lib.Seq.{drop-drop, take-take, length-take-le, drop-at, take-set-lt, drop-set-add, take-set-le, drop-set-lt}
+use borrow.Author.Tests.{eq-eqb, ne-eqb}
+use Rattle.words.specs.declared.Row.{Row}
+use Rattle.words.specs.declared.Pair.{Pair}
+use Rattle.words.specs.Blocks.{over, rowAt, pairAt, rowWords, pairWords, PairFull}
+use Rattle.words.proofs.Over.{length-over, over-over, row-words, eight, then-over, write-pair}
+use Rattle.words.proofs.Reading.{row-full}
+use Rattle.codec.specs.Encode.{noRow}
+use Rattle.queue_words.specs.Queues.{push, pop}
+
+-- writing back what was read changes nothing
+pub over-read : (l : List ℕ) (i n : ℕ) → i + n ≤ length l → over l i (take n (drop i l)) ≡ l
+unfolding over
+over-read l i n h =
+    let e : length (take n (drop i l)) ≡ n = simp (length-take, length-drop) (omega arith) in
+    ap (λ (k : ℕ). take i l ++ (take n (drop i l) ++ drop (i + k) l)) e
+    ∙ ap (λ (r : List ℕ). take i l ++ (take n (drop i l) ++ r)) (sym (drop-drop n i l))
+    ∙ ap (λ (r : List ℕ). take i l ++ r) (take-append-drop n (drop i l)) ∙ take-append-drop i l
+
+drop-over : (l : List ℕ) (i j : ℕ) (vs : List ℕ) → i ≤ length l → j ≡ i + length vs → drop j (over l i vs) ≡ drop j l
+unfolding over
+drop-over l i j vs h e =
+    let n : length (take i l ++ vs) ≡ j = simp length-append (ap (λ (k : ℕ). k + length vs) (length-take-le i l h) ∙ sym e) in
+    ap (drop j) (sym (append-assoc (take i l) vs (drop (i + length vs) l))) ∙ drop-at (take i l ++ vs) (drop (i + length vs) l) j n ∙ ap (λ (k : ℕ). drop k l) (sym e)
+
+-- words written, with what stands behind them, or before them, written back as it was read
+pub kept-behind : (l : List ℕ) (i j n : ℕ) (vs : List ℕ) → j ≡ i + length vs → j + n ≤ length l → over l i vs ≡ over l i (vs ++ take n (drop j l))
+kept-behind l i j n vs e h =
+    let m : List ℕ = over l i vs in
+    let same : length m ≡ length l = length-over l i vs (omega arith) in
+    sym (over-read m j n (omega arith)) ∙ ap (λ (r : List ℕ). over m j (take n r)) (drop-over l i j vs (omega arith) e)
+    ∙ over-over l i j vs (take n (drop j l)) (omega arith) e
+
+pub kept-before : (l : List ℕ) (i j a : ℕ) (vs : List ℕ) → j ≡ i + a → j ≤ length l → over l j vs ≡ over l i (take a (drop i l) ++ vs)
+kept-before l i j a vs e h =
+    let n : length (take a (drop i l)) ≡ a = simp (length-take, length-drop) (omega arith) in
+    ap (λ (m : List ℕ). over m j vs) (sym (over-read l i a (omega arith))) ∙ over-over l i j (take a (drop i l)) vs (omega arith) (omega arith)
+
+-- written over the same part of lists that are alike outside it
+over-same : (l m : List ℕ) (i n : ℕ) (vs : List ℕ) → length vs ≡ n → take i m ≡ take i l → drop (i + n) m ≡ drop (i + n) l → over m i vs ≡ over l i vs
+unfolding over
+over-same l m i n vs e p q =
+    ap (λ (r : List ℕ). r ++ (vs ++ drop (i + length vs) m)) p
+    ∙ ap (λ (r : List ℕ). take i l ++ (vs ++ r)) (ap (λ (k : ℕ). drop (i + k) m) e ∙ q ∙ ap (λ (k : ℕ). drop (i + k) l) (sym e))
+
+-- the four numbers of a row
+pub front : (l : List ℕ) (i : ℕ) → i + 12 ≤ length l → getD l i 0 ∷ getD l (i + 1) 0 ∷ getD l (i + 2) 0 ∷ getD l (i + 3) 0 ∷ [] ≡ take 4 (drop i l)
+unfolding rowWords rowAt
+front l i h = ap (take 4) (row-words l i h) ∙ take-take 4 12 (drop i l) (omega arith)
+
+-- one word of a part
+pub set-part : (l : List ℕ) (i n w v : ℕ) → w < n → i + n ≤ length l → set l (i + w) v ≡ over l i (set (take n (drop i l)) w v)
+set-part l i n w v b h =
+    let m : List ℕ = set l (i + w) v in
+    let same : length m ≡ length l = length-set l (i + w) v in
+    let e : take n (drop i m) ≡ set (take n (drop i l)) w v = ap (take n) (drop-set-add i l w v) ∙ take-set-lt n (drop i l) w v b in
+    sym (over-read m i n (omega arith)) ∙ ap (over m i) e ∙ over-same l m i n (set (take n (drop i l)) w v)
+    (simp (length-set, length-take, length-drop) (omega arith)) (take-set-le i l (i + w) v (omega arith)) (drop-set-lt (i + n) l (i + w) v (omega arith))
+
+pub write-eight : (l l1 l2 : List ℕ) (i : ℕ) (ws : List ℕ) → i + 8 ≤ length l → length ws ≡ 8 →
+    l1 ≡ over l i (getD ws 0 0 ∷ getD ws 1 0 ∷ getD ws 2 0 ∷ getD ws 3 0 ∷ []) → l2 ≡ over l1 (i + 4) (getD ws 4 0 ∷ getD ws 5 0 ∷ getD ws 6 0 ∷ getD ws 7 0 ∷ []) → l2 ≡ over l i ws
+write-eight l l1 l2 i ws h n e1 e2 = then-over l l1 l2 i (i + 4) _ _ (omega arith) refl e1 e2 ∙ ap (over l i) (sym (eight ws n))
+
+-- a queue with a message put, and with its front taken
+pub push-first : (l l1 l2 : List ℕ) (i : ℕ) (m z : Row) → i + 24 ≤ length l → getD l i 0 ≡ 0 → length (m .words) ≡ 8 → l1 ≡ over l i (rowWords m) → z ≡ noRow →
+    l2 ≡ over l1 (i + 12) (rowWords z) → (l2 ≡ over l i (pairWords (push (pairAt l i) m))) × PairFull (push (pairAt l i) m)
+unfolding push pairAt rowAt
+push-first l l1 l2 i m z h e n e1 k e2 =
+    let f : PairFull (record { a = m; b = noRow }) = record { first = n; second = refl } in
+    rw (eq-eqb (getD l i 0) 0 e) (write-pair l l1 l2 i (record { a = m; b = noRow }) h f e1 (e2 ∙ ap (λ (r : Row). over l1 (i + 12) (rowWords r)) k), f)
+
+pub push-second : (l l1 : List ℕ) (i : ℕ) (m : Row) → i + 24 ≤ length l → (getD l i 0 ≡ 0 → ⊥) → length (m .words) ≡ 8 → l1 ≡ over l (i + 12) (rowWords m) →
+    (l1 ≡ over l i (pairWords (push (pairAt l i) m))) × PairFull (push (pairAt l i) m)
+unfolding push pairAt pairWords rowAt
+push-second l l1 i m h e n e1 =
+    rw (ne-eqb (getD l i 0) 0 e)
+    (e1 ∙ kept-before l i (i + 12) 12 (rowWords m) refl (omega arith) ∙ ap (λ (r : List ℕ). over l i (r ++ rowWords m)) (sym (row-words l i (omega arith))), record { first = row-full l i (omega arith); second = n })
+
+pub pop-front : (l l1 l2 : List ℕ) (i : ℕ) (b z : Row) → i + 24 ≤ length l → b ≡ rowAt l (i + 12) → l1 ≡ over l i (rowWords b) → z ≡ noRow →
+    l2 ≡ over l1 (i + 12) (rowWords z) → (l2 ≡ over l i (pairWords (pop (pairAt l i)))) × PairFull (pop (pairAt l i))
+unfolding pop pairAt
+pop-front l l1 l2 i b z h e e1 k e2 =
+    let p : Pair = record { a = rowAt l (i + 12); b = noRow } in
+    let f : PairFull p = record { first = row-full l (i + 12) (omega arith); second = refl } in
+    (write-pair l l1 l2 i p h f (e1 ∙ ap (λ (r : Row). over l i (rowWords r)) e) (e2 ∙ ap (λ (r : Row). over l1 (i + 12) (rowWords r)) k), f)

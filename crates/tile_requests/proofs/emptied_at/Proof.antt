@@ -1,0 +1,29 @@
+use Rattle.words.specs.Blocks.{tileAt, rowAt}
+use Rattle.tile_parts.proofs.InPlace.{put-then}
+use Rattle.tile_parts.specs.InPlace.{lined}
+use Rattle.codec.specs.Encode.{zeros}
+use borrow.Author.Needs.{needs}
+use Rattle.tile_requests.proofs.emptied_at.Statement.{statement}
+use Rattle.tile_requests.proofs.emptied_at.Tie as tie
+
+returns : tie.Need-returns
+unfolding tileAt rowAt
+returns c = put-then (lined zeros) _ _ _ (c .before .before .before .before .before .before .before .before .before .before .before .before .args .at) _ (c .before .before .before .before .before .before .before .before .before .before .before .before .pre) (c .before .before .before .before .before .before .numbers-at .ensures) (c .before .before .line-at .ensures)
+
+pub emptied-at-spec : {M : Type 1} → statement M
+emptied-at-spec =
+    tie.close
+    (tie.spec
+    (λ c. search needs)
+    (λ c. search needs)
+    (λ c. search needs)
+    (λ c. search needs)
+    (λ c. search needs)
+    (λ c. search needs)
+    (λ c. search needs)
+    (λ c. search needs)
+    (λ c. search needs)
+    (λ c κs. search needs)
+    (λ c κs. search needs)
+    (λ c. search needs)
+    returns)
