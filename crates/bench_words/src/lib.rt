@@ -86,22 +86,34 @@ fn surveyed(ok: bool, ready: u64) -> Survey
     Survey { ok, ready }
 }
 
-// The n tiles, of which the marked ones are in the mask k.
-fn tiles(w: &[u64], n: u64, k: u64) -> Survey
+// Is each of the n tiles well formed?
+fn tiles_ok(w: &[u64], n: u64) -> bool
     requires { ⌜ (need n ≤ length (now w)) × (n ≤ 64) ⌝ }
-    ensures { λ r. ⌜ r ≡ record { ok = tilesOk true (now (w .entry)) 74 n; ready = readyFrom 0 (now (w .entry)) k 0 n } ⌝ }
+    ensures { λ r. ⌜ r ≡ tilesOk true (now (w .entry)) 74 n ⌝ }
 {
     let mut ok = true;
-    let mut ready: u64 = 0;
     let mut at: usize = 74;
     let mut i: u64 = 0;
     while i < n {
         ok = ok & block_tests::tile_ok_at(w, at);
-        ready = noted(w, k, ready, i);
         at = at + 84;
         i = i + 1;
     }
-    surveyed(ok, ready)
+    ok
+}
+
+// Those of the n tiles that may be taken, where the marked ones are in the mask k.
+fn ready_tiles(w: &[u64], n: u64, k: u64) -> u64
+    requires { ⌜ (need n ≤ length (now w)) × (n ≤ 64) ⌝ }
+    ensures { λ r. ⌜ r ≡ readyFrom 0 (now (w .entry)) k 0 n ⌝ }
+{
+    let mut ready: u64 = 0;
+    let mut i: u64 = 0;
+    while i < n {
+        ready = noted(w, k, ready, i);
+        i = i + 1;
+    }
+    ready
 }
 
 // Do the words begin with a bench, and which of its tiles may be taken?
@@ -114,9 +126,10 @@ pub fn survey_of(w: &[u64]) -> Survey
             if n <= 64 {
                 let enough = 74 + 84 * (n as usize);
                 if enough <= w.len() {
-                    let s = tiles(w, n, w[15]);
+                    let tiles = tiles_ok(w, n);
+                    let ready = ready_tiles(w, n, w[15]);
                     let home = block_tests::home_ok_at(w);
-                    surveyed(home & s.ok, s.ready)
+                    surveyed(home & tiles, ready)
                 } else {
                     surveyed(false, 0)
                 }
@@ -135,6 +148,25 @@ pub fn survey_of(w: &[u64]) -> Survey
 pub fn well_formed(w: &[u64]) -> bool
     ensures { λ r. ⌜ r ≡ wellFormed (now (w .entry)) ⌝ }
 {
-    let s = survey_of(w);
-    s.ok
+    if 74 <= w.len() {
+        let count = w[0];
+        if 0 < count {
+            if count <= 64 {
+                let enough = 74 + 84 * (count as usize);
+                if enough <= w.len() {
+                    let all = tiles_ok(w, count);
+                    let home = block_tests::home_ok_at(w);
+                    home & all
+                } else {
+                    false
+                }
+            } else {
+                false
+            }
+        } else {
+            false
+        }
+    } else {
+        false
+    }
 }

@@ -8,7 +8,7 @@ use Rattle.bench_words.proofs.survey_of.Tie as tie
 
 returns : tie.Need-returns
 unfolding surveyOf homeAt rowAt
-returns c = simp (c .surveyed .ensures, c .before .before .home-ok-at .ensures, c .before .before .before .tiles .ensures, le-leb _ _ (c .before .before .before .before .before .if4 .taken), le-leb _ _ (c .before .before .before .before .before .before .if3 .taken), lt-ltb _ _ (c .before .before .before .before .before .before .before .if2 .taken), le-leb _ _ (c .before .before .before .before .before .before .before .before .before .if1 .taken))
+returns c = simp (c .surveyed .ensures, c .before .home-ok-at .ensures, c .before .before .ready-tiles .ensures, c .before .before .before .before .tiles-ok .ensures, le-leb _ _ (c .before .before .before .before .before .if4 .taken), le-leb _ _ (c .before .before .before .before .before .before .if3 .taken), lt-ltb _ _ (c .before .before .before .before .before .before .before .if2 .taken), le-leb _ _ (c .before .before .before .before .before .before .before .before .before .if1 .taken))
 
 returns-2 : tie.Need-returns-2
 unfolding surveyOf homeAt rowAt
@@ -33,6 +33,7 @@ survey-of-spec =
     (λ c. search needs)
     (λ c. search needs)
     (λ c. search needs)
+    (λ c κs. search needs)
     (λ c. search needs)
     (λ c κs. search needs)
     (λ c κs. search needs)
