@@ -2,21 +2,9 @@
 // value as a number.
 ghost use mathlib.Core.Path.{_≡_};
 ghost use lib.ListN.{length};
-ghost use Rattle.bench_words.specs.Calls.{answerOf, refusal, wordsStarted};
+ghost use Rattle.bench_words.specs.Calls.{answerOf, wordsStarted};
 ghost use Rattle.given.specs.Given.{startFrom, bit};
 use bench::Answer;
-
-fn refused(n: u64) -> Answer
-    ensures { λ r. ⌜ r ≡ refusal n ⌝ }
-{
-    Answer {
-        refusal: n,
-        kind: 0,
-        value: 0,
-        sent: 0,
-        tiles: 0,
-    }
-}
 
 fn eight(m: &[u64]) -> [u64; 8]
     requires { ⌜ length (now m) ≡ 8 ⌝ }
@@ -33,7 +21,7 @@ pub fn start_from(w: &mut [u64], tiles: u64, memory: &[u64]) -> Answer
     if memory.len() == 8 {
         bench::start(w, tiles, eight(memory))
     } else {
-        refused(1)
+        bench_words::refused(1)
     }
 }
 
