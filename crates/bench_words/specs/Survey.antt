@@ -1,5 +1,4 @@
--- The one pass over the words of a bench: are they well formed, and which tiles may be taken. Only this part of a call looks at every
--- tile.
+-- The survey of a bench's words: are they well formed, and which tiles may be taken. Only this part of a call looks at every tile.
 use Prim.Native.Nat.{ℕ, suc, _+_, _*_}
 use mathlib.Core.Bool.{Bool, cond, true, false, _&&_}
 use mathlib.Core.List.{List}
