@@ -8,25 +8,12 @@ ghost use Rattle.words.specs.Blocks.{rowAt, pairAt};
 ghost use Rattle.codec.specs.Encode.{flag, rightNumber, encRequest, encForward, encReply, encToMemory, encFromMemory};
 ghost use Rattle.codec.specs.Decode.{isSet, decRight, decRequest, decForward, decReply, decToMemory, decFromMemory};
 ghost use Rattle.codec.specs.Same.{sameRow, samePair, canonQueue};
-ghost use Rattle.word_tests.specs.Parts.{bare, requestWordOk, ackDataOk, loadAckOk, storeAckOk};
-
-// The word of a request of type k.
-pub fn request_word_ok(k: u64, word: u64) -> bool
-    ensures { λ r. ⌜ r ≡ requestWordOk k word ⌝ }
-{
-    match k {
-        31 => word_tests::below(word, 8),
-        2 => word_tests::below(word, 8),
-        13 => 0 == word,
-        _ => false,
-    }
-}
 
 pub fn request_ok(w: &[u64], at: usize) -> bool
     requires { ⌜ at + 12 ≤ length (now w) ⌝ }
     ensures { λ r. ⌜ r ≡ sameRow (encRequest (decRequest (rowAt (now (w .entry)) at))) (rowAt (now (w .entry)) at) ⌝ }
 {
-    request_word_ok(w[at], w[at + 1]) & word_tests::clear_behind(w, at)
+    number_tests::request_word_ok(w[at], w[at + 1]) & word_tests::clear_behind(w, at)
 }
 
 pub fn grant_ok(w: &[u64], at: usize) -> bool
@@ -36,7 +23,7 @@ pub fn grant_ok(w: &[u64], at: usize) -> bool
     let word = w[at + 1];
     let state = w[at + 2];
     let miss = w[at + 3];
-    (0 == word) & (word_tests::right_ok(state) & word_tests::flag_ok(miss))
+    (0 == word) & (number_tests::right_ok(state) & number_tests::flag_ok(miss))
 }
 
 pub fn forward_ok(w: &[u64], at: usize) -> bool
@@ -45,58 +32,18 @@ pub fn forward_ok(w: &[u64], at: usize) -> bool
 {
     let k = w[at];
     match k {
-        16 => word_tests::bare(w, at),
-        17 => word_tests::bare(w, at),
-        18 => word_tests::bare(w, at),
+        16..=18 => word_tests::bare(w, at),
         29 => grant_ok(w, at),
         _ => false,
     }
-}
-
-// The data of an ack: the flag is 1, or it is 0 and so are the words.
-pub fn ack_data_ok(w: &[u64], at: usize) -> bool
-    requires { ⌜ at + 12 ≤ length (now w) ⌝ }
-    ensures { λ r. ⌜ r ≡ ackDataOk (rowAt (now (w .entry)) at) ⌝ }
-{
-    let k = w[at + 3];
-    match k {
-        0 => word_tests::clear_data(w, at),
-        1 => true,
-        _ => false,
-    }
-}
-
-pub fn load_ack_ok(w: &[u64], at: usize) -> bool
-    requires { ⌜ at + 12 ≤ length (now w) ⌝ }
-    ensures { λ r. ⌜ r ≡ loadAckOk (rowAt (now (w .entry)) at) ⌝ }
-{
-    let k = w[at + 2];
-    match k {
-        0 => word_tests::bare(w, at),
-        1 => (0 == w[at + 1]) & ack_data_ok(w, at),
-        _ => false,
-    }
-}
-
-pub fn store_ack_ok(w: &[u64], at: usize) -> bool
-    requires { ⌜ at + 12 ≤ length (now w) ⌝ }
-    ensures { λ r. ⌜ r ≡ storeAckOk (rowAt (now (w .entry)) at) ⌝ }
-{
-    (0 == w[at + 1]) & ((0 == w[at + 2]) & ack_data_ok(w, at))
 }
 
 pub fn reply_ok(w: &[u64], at: usize) -> bool
     requires { ⌜ at + 12 ≤ length (now w) ⌝ }
     ensures { λ r. ⌜ r ≡ sameRow (encReply (decReply (rowAt (now (w .entry)) at))) (rowAt (now (w .entry)) at) ⌝ }
 {
-    let k = w[at];
-    match k {
-        12 => word_tests::only_data(w, at),
-        21 => load_ack_ok(w, at),
-        22 => store_ack_ok(w, at),
-        23 => word_tests::bare(w, at),
-        _ => false,
-    }
+    let clear = word_tests::clear_data(w, at);
+    number_tests::reply_numbers_ok(w[at], w[at + 1], w[at + 2], w[at + 3], clear)
 }
 
 pub fn to_memory_ok(w: &[u64], at: usize) -> bool

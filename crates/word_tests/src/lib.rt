@@ -1,11 +1,10 @@
-// Tests of words where they stand: the numbers that have to be 0 are or-ed together; the others are below their bounds.
+// Tests of words where they stand: the numbers that have to be 0 are or-ed together.
 ghost use mathlib.Core.Path.{_≡_};
-ghost use Prim.Native.Nat.{_+_, _%_, _^_, _≤_, _<_};
+ghost use Prim.Native.Nat.{_+_, _≤_};
 ghost use lib.Dec.{eqb};
 ghost use lib.ListN.{length};
 ghost use Rattle.words.specs.Blocks.{rowAt};
-ghost use Rattle.codec.specs.Encode.{zeros, noRow, flag, rightNumber};
-ghost use Rattle.codec.specs.Decode.{isSet, decRight};
+ghost use Rattle.codec.specs.Encode.{zeros, noRow};
 ghost use Rattle.codec.specs.Same.{same, sameRow};
 ghost use Rattle.word_tests.specs.Parts.{noneAt, clearBehind, bare, onlyData};
 
@@ -24,6 +23,14 @@ pub fn clear_data(w: &[u64], at: usize) -> bool
     or8(w, at) == 0
 }
 
+// 0 exactly if the three numbers between type and data are 0.
+fn or3(w: &[u64], at: usize) -> u64
+    requires { ⌜ at + 12 ≤ length (now w) ⌝ }
+    ensures { λ r. ⌜ eqb r 0 ≡ onlyData (rowAt (now (w .entry)) at) ⌝ }
+{
+    w[at + 1] | w[at + 2] | w[at + 3]
+}
+
 pub fn clear_behind(w: &[u64], at: usize) -> bool
     requires { ⌜ at + 12 ≤ length (now w) ⌝ }
     ensures { λ r. ⌜ r ≡ clearBehind (rowAt (now (w .entry)) at) ⌝ }
@@ -35,14 +42,14 @@ pub fn bare(w: &[u64], at: usize) -> bool
     requires { ⌜ at + 12 ≤ length (now w) ⌝ }
     ensures { λ r. ⌜ r ≡ bare (rowAt (now (w .entry)) at) ⌝ }
 {
-    (w[at + 1] | w[at + 2] | w[at + 3] | or8(w, at)) == 0
+    (or3(w, at) | or8(w, at)) == 0
 }
 
 pub fn only_data(w: &[u64], at: usize) -> bool
     requires { ⌜ at + 12 ≤ length (now w) ⌝ }
     ensures { λ r. ⌜ r ≡ onlyData (rowAt (now (w .entry)) at) ⌝ }
 {
-    (w[at + 1] | w[at + 2] | w[at + 3]) == 0
+    or3(w, at) == 0
 }
 
 // 0 exactly if the row is a free place.
@@ -50,7 +57,7 @@ pub fn or12(w: &[u64], at: usize) -> u64
     requires { ⌜ at + 12 ≤ length (now w) ⌝ }
     ensures { λ r. ⌜ eqb r 0 ≡ sameRow noRow (rowAt (now (w .entry)) at) ⌝ }
 {
-    w[at] | w[at + 1] | w[at + 2] | w[at + 3] | or8(w, at)
+    w[at] | or3(w, at) | or8(w, at)
 }
 
 pub fn no_message(w: &[u64], at: usize) -> bool
@@ -73,38 +80,4 @@ pub fn no_messages(w: &[u64], at: usize) -> bool
     ensures { λ r. ⌜ r ≡ noneAt (now (w .entry)) at ⌝ }
 {
     or24(w, at) == 0
-}
-
-pub fn below(x: u64, n: u64) -> bool
-    requires { ⌜ 0 < n ⌝ }
-    ensures { λ r. ⌜ r ≡ eqb (x % n) x ⌝ }
-{
-    x < n
-}
-
-pub fn in_mask(x: u64, n: u64) -> bool
-    ensures { λ r. ⌜ r ≡ eqb (x % 2 ^ n) x ⌝ }
-{
-    bits::low(x, n) == x
-}
-
-pub fn flag_ok(x: u64) -> bool
-    ensures { λ r. ⌜ r ≡ eqb (flag (isSet x)) x ⌝ }
-{
-    match x {
-        0 => true,
-        1 => true,
-        _ => false,
-    }
-}
-
-pub fn right_ok(x: u64) -> bool
-    ensures { λ r. ⌜ r ≡ eqb (rightNumber (decRight x)) x ⌝ }
-{
-    match x {
-        1 => true,
-        2 => true,
-        3 => true,
-        _ => false,
-    }
 }

@@ -1,20 +1,32 @@
-use Rattle.word_tests.proofs.Rows.{home}
-use Rattle.word_tests.proofs.Laws.{and-assoc}
+use mathlib.Core.Path.{sym, _∙_}
 use Rattle.words.specs.Blocks.{homeAt, rowAt}
-use Rattle.word_tests.specs.Parts.{memoryOk}
+use Rattle.block_tests.specs.Parts.{memoryOk}
+use Rattle.block_tests.proofs.Blocks.{home-others, home-waits, home-line}
 use borrow.Author.Needs.{needs}
 use Rattle.block_tests.proofs.home_ok_at.Statement.{statement}
 use Rattle.block_tests.proofs.home_ok_at.Tie as tie
 
 returns : tie.Need-returns
 unfolding memoryOk homeAt rowAt
-returns c = simp (c .memory-ok .ensures, c .before .in-mask .ensures, c .before .before .before .below .ensures, c .before .before .before .before .before .state-ok .ensures, and-assoc) (home (homeAt (c .before .before .before .before .before .before .before .before .before .args .w .now)))
+returns c = simp (c .memory-ok .ensures, c .before .in-mask .ensures, c .before .before .before .below .ensures) (home-others (homeAt (c .before .before .before .before .before .before .before .before .before .before .before .before .before .before .before .args .w .now)) (c .before .before .before .before .before .before .before .before .before .before .before .before .before .before .before .pre .1) (sym (c .before .before .before .before .before .before .before .before .before .before .before .before .line-ok .ensures) ∙ c .before .before .before .before .before .before .before .before .before .before .before .if1 .taken) (sym (c .before .before .before .before .before .before .phase-numbers-ok .ensures) ∙ c .before .before .before .before .before .if2 .taken))
+
+returns-2 : tie.Need-returns-2
+unfolding homeAt rowAt
+returns-2 c = home-waits (homeAt (c .before .before .before .before .before .before .before .before .before .before .args .w .now)) (c .before .before .before .before .before .before .before .before .before .before .pre .1) (sym (c .before .before .before .before .before .before .before .line-ok .ensures) ∙ c .before .before .before .before .before .before .if1 .taken) (sym (c .before .phase-numbers-ok .ensures) ∙ c .if2 .left)
+
+returns-3 : tie.Need-returns-3
+unfolding homeAt rowAt
+returns-3 c = home-line (homeAt (c .before .before .before .before .args .w .now)) (c .before .before .before .before .pre .1) (sym (c .before .line-ok .ensures) ∙ c .if1 .left)
 
 pub home-ok-at-spec : {M : Type 1} → statement M
 home-ok-at-spec =
     tie.close
     (tie.spec
     (λ c. search needs)
+    (λ c κs. search needs)
+    (λ c. search needs)
+    (λ c. search needs)
+    (λ c. search needs)
     (λ c. search needs)
     (λ c κs. search needs)
     (λ c. search needs)
@@ -22,4 +34,6 @@ home-ok-at-spec =
     (λ c. search needs)
     (λ c κs. search needs)
     (λ c κs. search needs)
-    returns)
+    returns
+    returns-2
+    returns-3)

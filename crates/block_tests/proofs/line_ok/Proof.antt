@@ -1,10 +1,11 @@
-use Rattle.word_tests.proofs.Laws.{and-true, zero-left, same-self}
 use borrow.Author.Tests.{eq-eqb, ne-eqb}
-use Rattle.codec.specs.Same.{sameRow}
+use Rattle.number_tests.proofs.Laws.{and-true, zero-left}
 use Rattle.words.specs.Blocks.{rowAt}
-use Rattle.word_tests.specs.Parts.{bare, clearBehind}
 use Rattle.codec.specs.Encode.{encLine}
 use Rattle.codec.specs.Decode.{decLine}
+use Rattle.codec.specs.Same.{sameRow}
+use Rattle.word_tests.specs.Parts.{bare, clearBehind}
+use Rattle.word_tests.proofs.Laws.{same-self}
 use borrow.Author.Needs.{needs}
 use Rattle.block_tests.proofs.line_ok.Statement.{statement}
 use Rattle.block_tests.proofs.line_ok.Tie as tie

@@ -1,6 +1,6 @@
 use mathlib.Core.Path.{_∙_}
-use Rattle.word_tests.specs.Parts.{memoryOk}
-use Rattle.word_tests.proofs.Rows.{memory-none}
+use Rattle.block_tests.specs.Parts.{memoryOk}
+use Rattle.block_tests.proofs.Blocks.{memory-none}
 use borrow.Author.Needs.{needs}
 use Rattle.block_tests.proofs.memory_ok.Statement.{statement}
 use Rattle.block_tests.proofs.memory_ok.Tie as tie

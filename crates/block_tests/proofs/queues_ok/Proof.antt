@@ -1,6 +1,6 @@
-use Rattle.word_tests.specs.Parts.{queuesOk}
+use Rattle.block_tests.specs.Parts.{queuesOk}
 use mathlib.Core.Path.{_∙_}
-use Rattle.word_tests.proofs.Rows.{queues-none}
+use Rattle.block_tests.proofs.Blocks.{queues-none}
 use borrow.Author.Needs.{needs}
 use Rattle.block_tests.proofs.queues_ok.Statement.{statement}
 use Rattle.block_tests.proofs.queues_ok.Tie as tie

@@ -1,4 +1,4 @@
-use Rattle.word_tests.proofs.Laws.{or-clear}
+use Rattle.number_tests.proofs.Laws.{or-clear}
 use borrow.Author.Needs.{needs}
 use Rattle.block_tests.proofs.still.Statement.{statement}
 use Rattle.block_tests.proofs.still.Tie as tie

@@ -1,6 +1,6 @@
 use Rattle.words.specs.Blocks.{tileAt}
 use Rattle.codec.specs.Same.{tileOk}
-use Rattle.word_tests.specs.Parts.{queuesOk}
+use Rattle.block_tests.specs.Parts.{queuesOk}
 use native.Mathlib.Nat.{add-assoc}
 use borrow.Author.Needs.{needs}
 use Rattle.block_tests.proofs.tile_ok_at.Statement.{statement}

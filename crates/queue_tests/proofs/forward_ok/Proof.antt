@@ -1,46 +1,52 @@
-use Rattle.word_tests.proofs.Laws.{and-true, ne-left, same-self}
-use borrow.Author.Tests.{ne-eqb}
-use Rattle.codec.specs.Same.{sameRow}
+use native.Mathlib.Omega.{arith}
+use Rattle.number_tests.proofs.Laws.{and-true}
 use Rattle.words.specs.Blocks.{rowAt}
-use Rattle.word_tests.specs.Parts.{clearBehind, bare, onlyData}
 use Rattle.codec.specs.Encode.{encForward}
 use Rattle.codec.specs.Decode.{decForward}
+use Rattle.codec.specs.Same.{sameRow}
+use Rattle.word_tests.proofs.Laws.{same-self}
+use Rattle.queue_tests.proofs.Messages.{forward-bare, forward-none}
 use borrow.Author.Needs.{needs}
 use Rattle.queue_tests.proofs.forward_ok.Statement.{statement}
 use Rattle.queue_tests.proofs.forward_ok.Tie as tie
 
+mul-k : tie.Need-mul-k
+mul-k c = search needs
+
+shared-slice-read-k : tie.Need-shared-slice-read-k
+shared-slice-read-k c = search needs
+
+grant-ok-requires : tie.Need-grant-ok-requires
+grant-ok-requires c κs = search needs
+
+bare-requires : tie.Need-bare-requires
+bare-requires c κs = search needs
+
 returns : tie.Need-returns
-unfolding sameRow rowAt clearBehind bare onlyData encForward decForward
-returns c = simp (c .bare .ensures, c .before .match .keys1)
+unfolding sameRow rowAt encForward decForward
+returns c = simp (c .grant-ok .ensures, c .before .match .keys1, same-self, and-true)
 
 returns-2 : tie.Need-returns-2
-unfolding sameRow rowAt clearBehind bare onlyData encForward decForward
-returns-2 c = simp (c .bare2 .ensures, c .before .match .keys2)
+unfolding rowAt
+returns-2 c = simp (c .bare .ensures) (forward-bare _ (omega arith) (omega arith))
 
 returns-3 : tie.Need-returns-3
-unfolding sameRow rowAt clearBehind bare onlyData encForward decForward
-returns-3 c = simp (c .bare3 .ensures, c .before .match .keys3)
+unfolding rowAt
+returns-3 c = forward-none _ (λ a b. omega arith) (c .before .match .rest .1)
 
 returns-4 : tie.Need-returns-4
-unfolding sameRow rowAt clearBehind bare onlyData encForward decForward
-returns-4 c = simp (c .grant-ok .ensures, c .before .match .keys4, same-self, and-true)
-
-returns-5 : tie.Need-returns-5
-unfolding sameRow rowAt clearBehind bare onlyData encForward decForward
-returns-5 c = simp (ne-left _ _ (c .match .rest .1), ne-eqb _ _ (c .match .rest .0 .1), ne-eqb _ _ (c .match .rest .0 .0 .1), ne-eqb _ _ (c .match .rest .0 .0 .0 .1), same-self)
+unfolding rowAt
+returns-4 c = forward-none _ (λ a b. omega arith) (c .before .before .match .rest .1)
 
 pub forward-ok-spec : {M : Type 1} → statement M
 forward-ok-spec =
     tie.close
     (tie.spec
-    (λ c. search needs)
-    (λ c. search needs)
-    (λ c κs. search needs)
-    (λ c κs. search needs)
-    (λ c κs. search needs)
-    (λ c κs. search needs)
+    mul-k
+    shared-slice-read-k
+    grant-ok-requires
+    bare-requires
     returns
     returns-2
     returns-3
-    returns-4
-    returns-5)
+    returns-4)

@@ -3,6 +3,39 @@ use borrow.Author.Needs.{needs}
 use Rattle.queue_tests.proofs.grant_ok.Statement.{statement}
 use Rattle.queue_tests.proofs.grant_ok.Tie as tie
 
+add-word : tie.Need-add-word
+add-word c = search needs
+
+mul-word : tie.Need-mul-word
+mul-word c = search needs
+
+shared-slice-read-word : tie.Need-shared-slice-read-word
+shared-slice-read-word c = search needs
+
+add-state : tie.Need-add-state
+add-state c = search needs
+
+mul-state : tie.Need-mul-state
+mul-state c = search needs
+
+shared-slice-read-state : tie.Need-shared-slice-read-state
+shared-slice-read-state c = search needs
+
+add-miss : tie.Need-add-miss
+add-miss c = search needs
+
+mul-miss : tie.Need-mul-miss
+mul-miss c = search needs
+
+shared-slice-read-miss : tie.Need-shared-slice-read-miss
+shared-slice-read-miss c = search needs
+
+right-ok-requires : tie.Need-right-ok-requires
+right-ok-requires c κs = search needs
+
+flag-ok-requires : tie.Need-flag-ok-requires
+flag-ok-requires c κs = search needs
+
 returns : tie.Need-returns
 unfolding rowAt
 returns c = simp (c .flag-ok .ensures, c .before .right-ok .ensures)
@@ -11,15 +44,15 @@ pub grant-ok-spec : {M : Type 1} → statement M
 grant-ok-spec =
     tie.close
     (tie.spec
-    (λ c. search needs)
-    (λ c. search needs)
-    (λ c. search needs)
-    (λ c. search needs)
-    (λ c. search needs)
-    (λ c. search needs)
-    (λ c. search needs)
-    (λ c. search needs)
-    (λ c. search needs)
-    (λ c κs. search needs)
-    (λ c κs. search needs)
+    add-word
+    mul-word
+    shared-slice-read-word
+    add-state
+    mul-state
+    shared-slice-read-state
+    add-miss
+    mul-miss
+    shared-slice-read-miss
+    right-ok-requires
+    flag-ok-requires
     returns)

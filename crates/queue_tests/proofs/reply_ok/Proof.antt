@@ -1,48 +1,68 @@
 use mathlib.Core.Path.{_∙_}
-use Rattle.word_tests.proofs.Rows.{load-ack, store-ack}
-use Rattle.word_tests.proofs.Laws.{and-true, ne-left, same-self}
-use borrow.Author.Tests.{ne-eqb}
-use Rattle.codec.specs.Same.{sameRow}
 use Rattle.words.specs.Blocks.{rowAt}
-use Rattle.word_tests.specs.Parts.{clearBehind, bare, onlyData}
-use Rattle.codec.specs.Encode.{encReply}
-use Rattle.codec.specs.Decode.{decReply}
+use Rattle.queue_tests.proofs.Messages.{reply}
 use borrow.Author.Needs.{needs}
 use Rattle.queue_tests.proofs.reply_ok.Statement.{statement}
 use Rattle.queue_tests.proofs.reply_ok.Tie as tie
 
+clear-data-requires : tie.Need-clear-data-requires
+clear-data-requires c κs = search needs
+
+mul-reply-numbers-ok : tie.Need-mul-reply-numbers-ok
+mul-reply-numbers-ok c = search needs
+
+shared-slice-read-reply-numbers-ok : tie.Need-shared-slice-read-reply-numbers-ok
+shared-slice-read-reply-numbers-ok c = search needs
+
+add-reply-numbers-ok : tie.Need-add-reply-numbers-ok
+add-reply-numbers-ok c = search needs
+
+mul-reply-numbers-ok-2 : tie.Need-mul-reply-numbers-ok-2
+mul-reply-numbers-ok-2 c = search needs
+
+shared-slice-read-reply-numbers-ok-2 : tie.Need-shared-slice-read-reply-numbers-ok-2
+shared-slice-read-reply-numbers-ok-2 c = search needs
+
+add-reply-numbers-ok-2 : tie.Need-add-reply-numbers-ok-2
+add-reply-numbers-ok-2 c = search needs
+
+mul-reply-numbers-ok-3 : tie.Need-mul-reply-numbers-ok-3
+mul-reply-numbers-ok-3 c = search needs
+
+shared-slice-read-reply-numbers-ok-3 : tie.Need-shared-slice-read-reply-numbers-ok-3
+shared-slice-read-reply-numbers-ok-3 c = search needs
+
+add-reply-numbers-ok-3 : tie.Need-add-reply-numbers-ok-3
+add-reply-numbers-ok-3 c = search needs
+
+mul-reply-numbers-ok-4 : tie.Need-mul-reply-numbers-ok-4
+mul-reply-numbers-ok-4 c = search needs
+
+shared-slice-read-reply-numbers-ok-4 : tie.Need-shared-slice-read-reply-numbers-ok-4
+shared-slice-read-reply-numbers-ok-4 c = search needs
+
+reply-numbers-ok-requires : tie.Need-reply-numbers-ok-requires
+reply-numbers-ok-requires c κs = search needs
+
 returns : tie.Need-returns
-unfolding sameRow rowAt clearBehind bare onlyData encReply decReply
-returns c = simp (c .only-data .ensures, c .before .match .keys1, same-self, and-true)
-
-returns-2 : tie.Need-returns-2
 unfolding rowAt
-returns-2 c = c .load-ack-ok .ensures ∙ load-ack _ (c .before .match .keys2)
-
-returns-3 : tie.Need-returns-3
-unfolding rowAt
-returns-3 c = c .store-ack-ok .ensures ∙ store-ack _ (c .before .match .keys3)
-
-returns-4 : tie.Need-returns-4
-unfolding sameRow rowAt clearBehind bare onlyData encReply decReply
-returns-4 c = simp (c .bare .ensures, c .before .match .keys4)
-
-returns-5 : tie.Need-returns-5
-unfolding sameRow rowAt clearBehind bare onlyData encReply decReply
-returns-5 c = simp (ne-left _ _ (c .match .rest .1), ne-eqb _ _ (c .match .rest .0 .1), ne-eqb _ _ (c .match .rest .0 .0 .1), ne-eqb _ _ (c .match .rest .0 .0 .0 .1))
+returns c = simp (c .reply-numbers-ok .ensures, c .before .before .before .before .before .clear-data .ensures) (reply _)
 
 pub reply-ok-spec : {M : Type 1} → statement M
 reply-ok-spec =
     tie.close
     (tie.spec
-    (λ c. search needs)
-    (λ c. search needs)
-    (λ c κs. search needs)
-    (λ c κs. search needs)
-    (λ c κs. search needs)
-    (λ c κs. search needs)
-    returns
-    returns-2
-    returns-3
-    returns-4
-    returns-5)
+    clear-data-requires
+    mul-reply-numbers-ok
+    shared-slice-read-reply-numbers-ok
+    add-reply-numbers-ok
+    mul-reply-numbers-ok-2
+    shared-slice-read-reply-numbers-ok-2
+    add-reply-numbers-ok-2
+    mul-reply-numbers-ok-3
+    shared-slice-read-reply-numbers-ok-3
+    add-reply-numbers-ok-3
+    mul-reply-numbers-ok-4
+    shared-slice-read-reply-numbers-ok-4
+    reply-numbers-ok-requires
+    returns)

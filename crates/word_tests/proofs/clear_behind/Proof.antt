@@ -1,4 +1,4 @@
-use Rattle.word_tests.proofs.Laws.{and-assoc, zero-left, or-clear}
+use Rattle.number_tests.proofs.Laws.{and-assoc, zero-left, or-clear}
 use Rattle.word_tests.specs.Parts.{clearBehind}
 use Rattle.words.specs.Blocks.{rowAt}
 use borrow.Author.Needs.{needs}

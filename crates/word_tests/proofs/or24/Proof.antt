@@ -1,5 +1,5 @@
 use Rattle.word_tests.specs.Parts.{noneAt}
-use Rattle.word_tests.proofs.Laws.{or-clear}
+use Rattle.number_tests.proofs.Laws.{or-clear}
 use borrow.Author.Needs.{needs}
 use Rattle.word_tests.proofs.or24.Statement.{statement}
 use Rattle.word_tests.proofs.or24.Tie as tie
