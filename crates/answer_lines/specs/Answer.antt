@@ -4,7 +4,7 @@ use mathlib.Core.Bool.{cond}
 use mathlib.Core.List.{List, [], _∷_}
 use lib.Dec.{eqb}
 use lib.ListN.{length}
-use Rattle.bench_words.specs.declared.Answer.{Answer}
+use Rattle.answers.specs.declared.Answer.{Answer}
 use Rattle.sent.specs.declared.Place.{Place}
 use Rattle.sent.specs.Places.{placesOf}
 use Rattle.messages.specs.declared.Sent.{Sent}

@@ -5,7 +5,7 @@ ghost use Rattle.sent.specs.Places.{placesOf};
 ghost use Rattle.messages.specs.Rows.{messageOf};
 ghost use Rattle.answer_lines.specs.Pieces.{AllPlaced};
 ghost use Rattle.answer_lines.specs.Answer.{sentLine, sentLines, answerLines};
-use bench_words::Answer;
+use answers::Answer;
 use messages::Sent;
 
 // The line of one message. No message has more than 11 flits.

@@ -1,5 +1,1 @@
 pub mod Guard
-pub mod Laid
-pub mod Decoded
-pub mod Meets
-pub mod Ready

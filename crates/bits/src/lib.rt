@@ -1,9 +1,8 @@
-// Words of 64 bits: shifts of any length, fields by place and width, and sets of tiles as bit masks.
+// Words of 64 bits: shifts of any length, and fields by place and width.
 // Every call has an answer for every input: what a word cannot hold is 0 or is left as it is, as the definitions say.
 ghost use mathlib.Core.Path.{_≡_};
 ghost use Prim.Native.Nat.{_*_, _/_, _%_, _^_};
 ghost use Rattle.bits.specs.Field.{cut, put64};
-ghost use Rattle.bits.specs.Mask.{has, add64, del};
 
 // w moved down by n places. Past the word's end nothing is left.
 pub fn shr(w: u64, n: u64) -> u64
@@ -49,25 +48,4 @@ pub fn put(w: u64, place: u64, width: u64, v: u64) -> u64
     } else {
         w
     }
-}
-
-// Is tile t in the mask m?
-pub fn has(m: u64, t: u64) -> bool
-    ensures { λ r. ⌜ r ≡ has m t ⌝ }
-{
-    cut(m, t, 1) == 1
-}
-
-// The mask m with tile t.
-pub fn add(m: u64, t: u64) -> u64
-    ensures { λ r. ⌜ r ≡ add64 m t ⌝ }
-{
-    if t < 64 { m | (1 << t) } else { m }
-}
-
-// The mask m without tile t.
-pub fn del(m: u64, t: u64) -> u64
-    ensures { λ r. ⌜ r ≡ del m t ⌝ }
-{
-    if t < 64 { m - (m & (1 << t)) } else { m }
 }

@@ -99,7 +99,7 @@ pub fn home_ok_at(w: &[u64]) -> bool
     let n = w[0];
     let line = line_ok(w, n);
     if line {
-        let phase = number_tests::phase_numbers_ok(n, w[1], w[4], w[16], w[17]);
+        let phase = phase_tests::phase_numbers_ok(n, w[1], w[4], w[16], w[17]);
         if phase {
             let last = number_tests::below(w[14], n);
             let marks = number_tests::in_mask(w[15], n);

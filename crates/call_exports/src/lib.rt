@@ -2,13 +2,12 @@
 // refusal number and tells the whole answer: refusal, kind, value, `sent`, `tiles` (docs/LAYOUT.md). include/duzhmarqi.h says the same for C.
 ghost use mathlib.Core.Path.{_≡_};
 ghost use Rattle.protocol.specs.Parts.{load, store, evict, taking, toTile, fromTile, memoryStep, memoryAck, homeEviction};
-ghost use Rattle.bench_words.specs.Calls.{wellFormed, stepOn, answerOf, wordsAfter, wordsStarted};
+ghost use Rattle.calls.specs.Calls.{wellFormed, stepOn, answerOf, wordsAfter, wordsStarted};
 ghost use Rattle.telling.specs.Told.{told, answerWords};
 ghost use Rattle.given.specs.Given.{startFrom, bit};
-ghost use Rattle.call_args.specs.Made.{atTile, homeMade, atHome};
-use bench_words::Answer;
-use call_args::HomeArgs;
-use call_args::TileArgs;
+ghost use Rattle.call_tags.specs.Tags.{atTile, atHome};
+use call_tags::HomeArgs;
+use call_tags::TileArgs;
 use telling::tell_answer;
 
 // A fresh bench of so many tiles, with the eight memory words.
@@ -35,7 +34,7 @@ fn run_tile(w: &mut [u64], a: TileArgs, out: &mut [u64]) -> u64
     ensures words { λ _. ⌜ now (w .exit) ≡ wordsAfter (now (w .entry)) (stepOn (now (w .entry)) (atTile a)) ⌝ }
     ensures told { λ _. ⌜ now (out .exit) ≡ told (now (out .entry)) (answerWords (answerOf (stepOn (now (w .entry)) (atTile a)))) ⌝ }
 {
-    let answer = tile_calls::at_tile(w, a.call, a.tile, a.word, a.value);
+    let answer = tile_calls::at_tile(w, a.tag, a.tile, a.word, a.value);
     tell_answer(out, answer)
 }
 
@@ -45,7 +44,7 @@ pub extern "C" fn duzh_load(w: &mut [u64], tile: u64, word: u64, out: &mut [u64]
     ensures words { λ _. ⌜ now (w .exit) ≡ wordsAfter (now (w .entry)) (stepOn (now (w .entry)) (load tile word)) ⌝ }
     ensures told { λ _. ⌜ now (out .exit) ≡ told (now (out .entry)) (answerWords (answerOf (stepOn (now (w .entry)) (load tile word)))) ⌝ }
 {
-    run_tile(w, call_args::load(tile, word), out)
+    run_tile(w, call_tags::load(tile, word), out)
 }
 
 #[no_mangle]
@@ -60,7 +59,7 @@ pub extern "C" fn duzh_store(
     ensures words { λ _. ⌜ now (w .exit) ≡ wordsAfter (now (w .entry)) (stepOn (now (w .entry)) (store tile word value)) ⌝ }
     ensures told { λ _. ⌜ now (out .exit) ≡ told (now (out .entry)) (answerWords (answerOf (stepOn (now (w .entry)) (store tile word value)))) ⌝ }
 {
-    run_tile(w, call_args::store(tile, word, value), out)
+    run_tile(w, call_tags::store(tile, word, value), out)
 }
 
 #[no_mangle]
@@ -69,7 +68,7 @@ pub extern "C" fn duzh_evict(w: &mut [u64], tile: u64, out: &mut [u64]) -> u64
     ensures words { λ _. ⌜ now (w .exit) ≡ wordsAfter (now (w .entry)) (stepOn (now (w .entry)) (evict tile)) ⌝ }
     ensures told { λ _. ⌜ now (out .exit) ≡ told (now (out .entry)) (answerWords (answerOf (stepOn (now (w .entry)) (evict tile)))) ⌝ }
 {
-    run_tile(w, call_args::evict(tile), out)
+    run_tile(w, call_tags::evict(tile), out)
 }
 
 #[no_mangle]
@@ -78,20 +77,7 @@ pub extern "C" fn duzh_to_tile(w: &mut [u64], tile: u64, out: &mut [u64]) -> u64
     ensures words { λ _. ⌜ now (w .exit) ≡ wordsAfter (now (w .entry)) (stepOn (now (w .entry)) (toTile tile)) ⌝ }
     ensures told { λ _. ⌜ now (out .exit) ≡ told (now (out .entry)) (answerWords (answerOf (stepOn (now (w .entry)) (toTile tile)))) ⌝ }
 {
-    run_tile(w, call_args::to_tile(tile), out)
-}
-
-fn call_home(w: &mut [u64], c: u64, tile: u64) -> Answer
-    ensures answer { λ r. ⌜ r ≡ answerOf (stepOn (now (w .entry)) (homeMade c tile)) ⌝ }
-    ensures words { λ _. ⌜ now (w .exit) ≡ wordsAfter (now (w .entry)) (stepOn (now (w .entry)) (homeMade c tile)) ⌝ }
-{
-    match c {
-        0 => home_calls::taking(w),
-        1 => home_calls::from_tile(w, tile),
-        2 => home_calls::memory_step(w),
-        3 => home_calls::memory_ack(w),
-        _ => home_calls::home_eviction(w),
-    }
+    run_tile(w, call_tags::to_tile(tile), out)
 }
 
 fn run_home(w: &mut [u64], a: HomeArgs, out: &mut [u64]) -> u64
@@ -99,7 +85,7 @@ fn run_home(w: &mut [u64], a: HomeArgs, out: &mut [u64]) -> u64
     ensures words { λ _. ⌜ now (w .exit) ≡ wordsAfter (now (w .entry)) (stepOn (now (w .entry)) (atHome a)) ⌝ }
     ensures told { λ _. ⌜ now (out .exit) ≡ told (now (out .entry)) (answerWords (answerOf (stepOn (now (w .entry)) (atHome a)))) ⌝ }
 {
-    let answer = call_home(w, a.call, a.tile);
+    let answer = home_calls::at_home(w, a.tag, a.tile);
     tell_answer(out, answer)
 }
 
@@ -109,7 +95,7 @@ pub extern "C" fn duzh_taking(w: &mut [u64], out: &mut [u64]) -> u64
     ensures words { λ _. ⌜ now (w .exit) ≡ wordsAfter (now (w .entry)) (stepOn (now (w .entry)) taking) ⌝ }
     ensures told { λ _. ⌜ now (out .exit) ≡ told (now (out .entry)) (answerWords (answerOf (stepOn (now (w .entry)) taking))) ⌝ }
 {
-    run_home(w, call_args::taking(), out)
+    run_home(w, call_tags::taking(), out)
 }
 
 #[no_mangle]
@@ -118,7 +104,7 @@ pub extern "C" fn duzh_from_tile(w: &mut [u64], tile: u64, out: &mut [u64]) -> u
     ensures words { λ _. ⌜ now (w .exit) ≡ wordsAfter (now (w .entry)) (stepOn (now (w .entry)) (fromTile tile)) ⌝ }
     ensures told { λ _. ⌜ now (out .exit) ≡ told (now (out .entry)) (answerWords (answerOf (stepOn (now (w .entry)) (fromTile tile)))) ⌝ }
 {
-    run_home(w, call_args::from_tile(tile), out)
+    run_home(w, call_tags::from_tile(tile), out)
 }
 
 #[no_mangle]
@@ -127,7 +113,7 @@ pub extern "C" fn duzh_memory_step(w: &mut [u64], out: &mut [u64]) -> u64
     ensures words { λ _. ⌜ now (w .exit) ≡ wordsAfter (now (w .entry)) (stepOn (now (w .entry)) memoryStep) ⌝ }
     ensures told { λ _. ⌜ now (out .exit) ≡ told (now (out .entry)) (answerWords (answerOf (stepOn (now (w .entry)) memoryStep))) ⌝ }
 {
-    run_home(w, call_args::memory_step(), out)
+    run_home(w, call_tags::memory_step(), out)
 }
 
 #[no_mangle]
@@ -136,7 +122,7 @@ pub extern "C" fn duzh_memory_ack(w: &mut [u64], out: &mut [u64]) -> u64
     ensures words { λ _. ⌜ now (w .exit) ≡ wordsAfter (now (w .entry)) (stepOn (now (w .entry)) memoryAck) ⌝ }
     ensures told { λ _. ⌜ now (out .exit) ≡ told (now (out .entry)) (answerWords (answerOf (stepOn (now (w .entry)) memoryAck))) ⌝ }
 {
-    run_home(w, call_args::memory_ack(), out)
+    run_home(w, call_tags::memory_ack(), out)
 }
 
 #[no_mangle]
@@ -145,5 +131,5 @@ pub extern "C" fn duzh_home_eviction(w: &mut [u64], out: &mut [u64]) -> u64
     ensures words { λ _. ⌜ now (w .exit) ≡ wordsAfter (now (w .entry)) (stepOn (now (w .entry)) homeEviction) ⌝ }
     ensures told { λ _. ⌜ now (out .exit) ≡ told (now (out .entry)) (answerWords (answerOf (stepOn (now (w .entry)) homeEviction))) ⌝ }
 {
-    run_home(w, call_args::home_eviction(), out)
+    run_home(w, call_tags::home_eviction(), out)
 }

@@ -2,7 +2,7 @@
 -- most one message to a queue, so each is the last on its queue after the step.
 use Prim.Native.Nat.{ℕ}
 use mathlib.Core.List.{List, [], _∷_}
-use Rattle.bits.specs.Mask.{add}
+use Rattle.masks.specs.Mask.{add}
 use Rattle.protocol.specs.Parts.{Message, onNoc1, onNoc2, onNoc3, toMemory, fromMemory}
 
 -- 0 none; 1 NoC1; 2 NoC2, in rising order of tiles; 3 NoC3; 4 to memory; 5 from memory; 6 NoC3, then NoC1

@@ -11,8 +11,8 @@ use lib.ListN.{length, getD, set, length-set}
 use lib.Pow.{pow-pos}
 use lib.Seq.{getD-set-same, set-set}
 use borrow.Author.Tests.{eqb-true, eqb-false, ne-eqb, ltb-true}
-use Rattle.bits.specs.Mask.{has, add, del}
-use Rattle.bits.proofs.MaskLaws.{has-add, has-add-other, has-del, has-del-other, has-none, add-lt, del-lt}
+use Rattle.masks.specs.Mask.{has, add, del}
+use Rattle.masks.proofs.MaskLaws.{has-add, has-add-other, has-del, has-del-other, has-none, add-lt, del-lt}
 use Rattle.protocol.specs.Parts.{Words, Queue, empty, one, Access, reading, writing, Waiting, Request, Forward, Reply, ToMemory, FromMemory, loadMemAck, onNoc1, onNoc3, Tile, uncached, sharedBy, ownedBy, Line, absent, present, Cause, request, eviction, Clearing, clearForStore, clearForEviction, Home, idle, awaitingLoad, awaitingOwner, awaitingAcks, awaitingStore, Bench, benchOf, Call, load, store, evict, taking, toTile, fromTile, memoryStep, memoryAck, homeEviction, Result}
 use Rattle.protocol.specs.Tile.{loadAt, storeAt, evictAt, deliverTo}
 use Rattle.protocol.specs.Home.{Move, move, grantShared, grantOwner, ownRight, askOwner, invalidate, leave, serve, writeBack, wordsAfter, dirtyAfter, loadAckS, loadAckI, storeAck, cleared, invAck, acknowledged, evictLine}

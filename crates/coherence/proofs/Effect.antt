@@ -9,7 +9,7 @@ use borrow.Author.Tests.{ltb-true, eqb-true, eqb-false}
 use lib.Dec.{ltb, eqb}
 use lib.ListN.{length, set, length-set}
 use lib.Seq.{getD-set-same, getD-set-other}
-use Rattle.bits.specs.Mask.{add, del, has}
+use Rattle.masks.specs.Mask.{add, del, has}
 use Rattle.protocol.specs.Parts.{Words, Queue, empty, one, two, reading, writing, Right, shared, exclusive, modified, Cache, invalid, valid, Waiting, nothing, forLoad, forStore, Request, loadReq, storeReq, wbGuardReq, Forward, loadFwd, storeFwd, invFwd, dataAck, Reply, wbReq, loadFwdAckS, loadFwdAckI, storeFwdAck, invFwdAck, ToMemory, loadMem, storeMem, FromMemory, loadMemAck, storeMemAck, fromMemory, Tile, tileOf, absent, present, Home, idle, awaitingLoad, awaitingOwner, awaitingAcks, awaitingStore, Bench, benchOf, Call, load, store, evict, taking, toTile, fromTile, memoryStep, memoryAck, homeEviction, Result, refused, accepted}
 use Rattle.protocol.specs.Tile.{loadAt, storeAt, evictAt, Received, misfit, filled, fill, receive, received, deliverTo}
 use Rattle.protocol.specs.Home.{Move, move, serve, writeBack, loadAckS, loadAckI, storeAck, invAck, acknowledged, evictLine}

@@ -10,7 +10,7 @@ use native.Mathlib.Omega.{arith}
 use borrow.Author.Tests.{lt-ltb, le-ltb, eqb-false}
 use lib.Dec.{ltb, eqb}
 use lib.ListN.{length, set, length-replicate}
-use Rattle.bits.specs.Mask.{has}
+use Rattle.masks.specs.Mask.{has}
 use Rattle.protocol.specs.Parts.{Words, empty, one, two, reading, writing, Request, loadReq, storeReq, wbGuardReq, Tile, tileOf, idle, awaitingLoad, awaitingOwner, awaitingAcks, awaitingStore, Bench, benchOf, Call, load, store, evict, taking, toTile, fromTile, memoryStep, memoryAck, homeEviction}
 use Rattle.protocol.specs.Home.{Move, move, range, serve}
 use Rattle.protocol.specs.Bench.{freshTile, fresh, tileAt, front, noc1, popNoc1, kindOf, circle, firstOf, eligible, arbitrate, served, take, takeFrom, takingOn, step}

@@ -8,7 +8,7 @@ use mathlib.Core.Bool.{Bool, true, false}
 use mathlib.Core.List.{List}
 use mathlib.Core.Option.{Option, some, none}
 use lib.ListN.{length}
-use Rattle.bits.specs.Mask.{has}
+use Rattle.masks.specs.Mask.{has}
 use Rattle.protocol.specs.Parts.{Words, Queue, empty, one, two, Access, reading, writing, shared, exclusive, modified, Cache, invalid, valid, Waiting, nothing, forLoad, forStore, Request, loadReq, storeReq, wbGuardReq, Forward, loadFwd, storeFwd, invFwd, dataAck, Reply, wbReq, loadFwdAckS, loadFwdAckI, storeFwdAck, invFwdAck, ToMemory, loadMem, storeMem, FromMemory, loadMemAck, storeMemAck, Tile, tileOf, uncached, sharedBy, ownedBy, Line, absent, present, Cause, request, eviction, Clearing, clearForStore, clearForEviction, Home, idle, awaitingLoad, awaitingOwner, awaitingAcks, awaitingStore, Bench, benchOf, Result, refused, accepted}
 use Rattle.protocol.specs.Home.{wordsAfter}
 use Rattle.protocol.specs.Bench.{tileAt}

@@ -8,8 +8,8 @@ use mathlib.Core.Option.{Option, some, none, Option·map}
 use native.Mathlib.Omega.{arith}
 use lib.ListN.{length, set, length-set}
 use lib.Seq.{getD-set-same, getD-set-other}
-use Rattle.bits.specs.Mask.{has, add}
-use Rattle.bits.proofs.MaskLaws.{has-add, has-add-other, add-lt}
+use Rattle.masks.specs.Mask.{has, add}
+use Rattle.masks.proofs.MaskLaws.{has-add, has-add-other, add-lt}
 use Rattle.protocol.specs.Parts.{Words, Queue, empty, Access, reading, writing, Waiting, Forward, invFwd, ToMemory, FromMemory, Message, onNoc2, Tile, sharedBy, ownedBy, Line, absent, present, Cause, request, eviction, Clearing, clearForStore, Home, idle, awaitingOwner, awaitingAcks, awaitingStore, Bench, benchOf, Result}
 use Rattle.protocol.specs.Home.{Move, move, range, among, members, grantShared, grantOwner, ownRight, askedFor, askOwner, invalidateTo, invalidate, leave}
 use Rattle.protocol.specs.Bench.{freshTile, tileAt, push, sendOne, sendTo, send, sent, posted, kindOf}

@@ -9,8 +9,8 @@ use native.Mathlib.Omega.{arith}
 use lib.ListN.{length, set}
 use lib.Pow.{pow-pos}
 use borrow.Author.Tests.{lt-ltb, not-true, not-false}
-use Rattle.bits.specs.Mask.{has}
-use Rattle.bits.proofs.MaskLaws.{has-none, ext}
+use Rattle.masks.specs.Mask.{has}
+use Rattle.masks.proofs.MaskLaws.{has-none, ext}
 use Rattle.protocol.specs.Parts.{Words, Queue, empty, one, two, Access, Cache, Waiting, Request, loadReq, storeReq, wbGuardReq, Forward, Reply, wbReq, loadFwdAckS, loadFwdAckI, storeFwdAck, invFwdAck, ToMemory, loadMem, storeMem, FromMemory, Message, Tile, tileOf, Line, Home, idle, awaitingOwner, awaitingAcks, Cause, Clearing, Bench, benchOf, taking, toTile, fromTile, memoryStep, memoryAck, Result, refused, accepted}
 use Rattle.protocol.specs.Tile.{Received, misfit, filled, answered, received, receive, deliverTo}
 use Rattle.protocol.specs.Home.{Move, move, range, writeBack, loadAckS, loadAckI, storeAck, invAck, acknowledged}

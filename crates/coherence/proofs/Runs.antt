@@ -5,7 +5,7 @@ use mathlib.Core.Bool.{Bool, true, false, _&&_}
 use mathlib.Core.List.{List, [], _∷_}
 use lib.Dec.{eqb}
 use lib.ListN.{length, getD, length-replicate, getD-replicate}
-use Rattle.bits.proofs.MaskLaws.{has-none}
+use Rattle.masks.proofs.MaskLaws.{has-none}
 use Rattle.protocol.specs.Parts.{Words, Waiting, nothing, Bench, Call, load, store, evict, taking, toTile, fromTile, memoryStep, memoryAck, homeEviction, Result, refused, accepted, idle, absent}
 use Rattle.protocol.specs.Bench.{freshTile, fresh, step}
 use Rattle.protocol.specs.Demand3.{kept, after, runs, answer, answered, hasKind, event, history}

@@ -9,7 +9,7 @@ use borrow.Author.Tests.{ltb-true, ltb-false}
 use native.Mathlib.Nat.{div-eq-of-lt, lt-of-lt-of-le}
 use lib.Pow.{pow-mono, shr-shr, shr-lt}
 use lib.Count.{trailingZeros, under, trailing-le}
-use Rattle.bits.specs.Mask.{has}
+use Rattle.masks.specs.Mask.{has}
 use Rattle.find_first.specs.Next.{firstIn, next}
 
 up-one : (m i : ℕ) → m / 2 ^ suc i ≡ m / 2 ^ i / 2

@@ -1,7 +1,7 @@
 -- The first tile of a mask from a given tile on.
 use mathlib.Core.Bool.{cond}
 use Prim.Native.Nat.{ℕ, suc, _+_, _-_}
-use Rattle.bits.specs.Mask.{has}
+use Rattle.masks.specs.Mask.{has}
 
 -- the first of n tiles from tile i on that is in the mask m; 64 for none
 unfoldable pub firstIn : ℕ → ℕ → ℕ → ℕ

@@ -5,7 +5,7 @@ use mathlib.Core.List.{List}
 use lib.Dec.{eqb}
 use lib.ListN.{length}
 use Rattle.protocol.specs.Parts.{Bench, Result, refused}
-use Rattle.bench_words.specs.Calls.{startOn}
+use Rattle.calls.specs.Calls.{startOn}
 
 -- a start with lent memory words: other than eight are refused 1
 unfoldable pub startFrom : List ℕ → ℕ → List ℕ → Result Bench

@@ -2,9 +2,9 @@
 // value as a number.
 ghost use mathlib.Core.Path.{_≡_};
 ghost use lib.ListN.{length};
-ghost use Rattle.bench_words.specs.Calls.{answerOf, wordsStarted};
+ghost use Rattle.calls.specs.Calls.{answerOf, wordsStarted};
 ghost use Rattle.given.specs.Given.{startFrom, bit};
-use bench::Answer;
+use answers::Answer;
 
 fn eight(m: &[u64]) -> [u64; 8]
     requires { ⌜ length (now m) ≡ 8 ⌝ }
@@ -19,9 +19,9 @@ pub fn start_from(w: &mut [u64], tiles: u64, memory: &[u64]) -> Answer
     ensures words { λ _. ⌜ now (w .exit) ≡ wordsStarted (now (w .entry)) tiles (startFrom (now (w .entry)) tiles (now (memory .entry))) ⌝ }
 {
     if memory.len() == 8 {
-        bench::start(w, tiles, eight(memory))
+        bench_start::start(w, tiles, eight(memory))
     } else {
-        bench_words::refused(1)
+        answers::refused(1)
     }
 }
 

@@ -6,17 +6,17 @@ use mathlib.Core.List.{List}
 use mathlib.Core.Option.{Option, some, none}
 use native.Mathlib.Omega.{arith}
 use native.Mathlib.Nat.{mod-lt}
-use lib.Dec.{eqb}
+use lib.Dec.{eqb, ltb}
 use lib.ListN.{length, getD, set, drop, length-set}
 use lib.Seq.{getD-set-same, getD-set-other}
-use borrow.Author.Tests.{lt-ltb, le-ltb, eqb-true, eqb-false, ne-eqb}
-use Rattle.bits.specs.Mask.{has}
+use borrow.Author.Tests.{lt-ltb, le-ltb, ltb-true, ltb-false, eqb-true, eqb-false, ne-eqb}
+use Rattle.masks.specs.Mask.{has}
 use Rattle.words.specs.declared.Row.{Row}
 use Rattle.words.specs.declared.Pair.{Pair}
 use Rattle.words.specs.declared.TileBlock.{TileBlock}
 use Rattle.words.specs.declared.HomeBlock.{HomeBlock}
 use Rattle.words.specs.Blocks as blocks
-use Rattle.words.specs.Blocks.{over, homeAt, tileWords, TileFull}
+use Rattle.words.specs.Blocks.{need, over, homeAt, tileWords, TileFull}
 use Rattle.words.proofs.Reading.{tile-full}
 use Rattle.protocol.specs.Parts.{Words, Queue, ToMemory, FromMemory, Tile, tileOf, Line, Home, idle, awaitingLoad, awaitingOwner, awaitingAcks, awaitingStore, reading, writing, request, eviction, clearForStore, clearForEviction, benchOf, Call, taking, fromTile, memoryStep, memoryAck, homeEviction, refused}
 use Rattle.protocol.specs.Bench as rules
@@ -37,22 +37,32 @@ use Rattle.home_steps.proofs.Steps.{first-row, take-is, accept-is, step-is, ack
 use Rattle.home_steps.proofs.Spread.{take-spread, accept-spread, step-spread, ack-spread, evict-spread}
 use Rattle.home_steps.proofs.Sends.{take-sends, accept-sends, step-sends, ack-sends, evict-sends}
 use Rattle.home_steps.proofs.Range.{line-in, home-in}
-use Rattle.bench_words.specs.declared.Answer.{Answer}
-use Rattle.bench_words.specs.Calls.{need, wellFormed, stepOn, answerOf, wordsAfter, refusal, homeCall}
-use Rattle.bench_words.specs.declared.Survey.{Survey}
-use Rattle.bench_words.specs.Survey.{surveyOf}
-use Rattle.bench_words.proofs.Guard.{survey-ok}
-use Rattle.bench_words.proofs.Ready.{survey-ready}
-use Rattle.posts.specs.Post.{rooms, popped, answering, Committed}
-use Rattle.home_calls.specs.Taken.{homeStepOn, refusalOf, choice, chosen, acceptAt}
-use Rattle.bench_words.proofs.Laid.{Laid, laid-tile, write-tile}
-use Rattle.bench_words.proofs.Decoded.{found, count, laid-out}
-use Rattle.bench_words.proofs.Meets.{Meets}
+use Rattle.answers.specs.declared.Answer.{Answer}
+use Rattle.calls.specs.Calls.{wellFormed, stepOn, answerOf, wordsAfter}
+use Rattle.call_tags.specs.Tags.{homeCall}
+use Rattle.answers.specs.Answers.{refusal}
+use Rattle.round_robin.specs.Ready.{readyFrom, chosen}
+use Rattle.tells.specs.Tells.{rooms}
+use Rattle.tells.proofs.Places.{pop-full, over-noc1, over-noc3}
+use Rattle.posts.specs.Post.{popped, answering, Committed}
+use Rattle.arbitration.specs.declared.Turn.{Turn}
+use Rattle.arbitration.specs.Taken.{refusing, takeAt, takingTurn}
+use Rattle.home_turns.specs.Turns.{acceptAt, fromTurn, ackTurn, evictTurn, turnOf}
+use Rattle.home_calls.specs.Serves.{Serves}
+use Rattle.calls.proofs.Laid.{Laid, laid-tile, write-tile}
+use Rattle.calls.proofs.Decoded.{found, count, laid-out}
+use Rattle.calls.proofs.Meets.{Meets}
 use Rattle.posts.proofs.Posted.{allRoom, rooms-tiles}
-use Rattle.posts.proofs.Commits.{committed, is-stopped}
-use Rattle.posts.proofs.Places.{pop-full, over-noc1, over-noc3}
-use Rattle.home_calls.proofs.Moved.{as-accept, as-take}
-use Rattle.home_calls.proofs.Searched.{optionOf, searched, choice-below, ready-chosen}
+use Rattle.posts.proofs.Commits.{committed}
+use Rattle.home_calls.proofs.Moved.{popped-at, as-accept, as-take, on-ack, on-evict}
+use Rattle.home_calls.proofs.Searched.{optionOf, choice, searched, choice-below, ready-chosen}
+
+-- the calls at the home alone: 0 memory step, 1 memory ack, else home eviction
+unfoldable alone : ℕ → Call
+alone c = cond (eqb c 0) memoryStep (cond (eqb c 1) memoryAck homeEviction)
+
+unfoldable homeStepOn : ℕ → HomeBlock → HomeStep
+homeStepOn c x = cond (eqb c 0) (numbers.memoryStep x) (cond (eqb c 1) (numbers.memoryAck x) (numbers.evictLine x))
 
 -- a tile without the front of its NoC1, or of its NoC3
 unfoldable popped1 : TileBlock → TileBlock
@@ -165,9 +175,9 @@ module _ (l : List ℕ) (h : wellFormed l ≡ true) where
       go false true = ack-is n home last marks memory out back
       go false false = evict-is n (found l h .most) last marks memory out back home in-range
 
-  result-step : (c : ℕ) → step (homeCall c) (decoded l) ≡ spread 0 (result c) ts
-  unfolding result homeCall step
-  result-step c = ap (step (homeCall c)) read-as ∙ go (eqb c 0) (eqb c 1)
+  result-step : (c : ℕ) → step (alone c) (decoded l) ≡ spread 0 (result c) ts
+  unfolding result alone step
+  result-step c = ap (step (alone c)) read-as ∙ go (eqb c 0) (eqb c 1)
     where
       go : (a b : Bool) → step (cond a memoryStep (cond b memoryAck homeEviction)) (benchOf home last marks memory out back ts)
           ≡ spread 0 (cond a (steppedHome home last marks memory out back) (cond b (ackedHome home last marks memory out back) (evictedHome n home last marks memory out back))) ts
@@ -175,38 +185,9 @@ module _ (l : List ℕ) (h : wellFormed l ≡ true) where
       go false true = ack-spread home last marks memory out back ts
       go false false = evict-spread home last marks memory out back ts ∙ ap (λ (z : ℕ). spread 0 (evictedHome z home last marks memory out back) ts) tiles-counted
 
-  pub home-done : (c : ℕ) (s : HomeStep) → s ≡ homeStepOn c H → (a : Answer) (m : List ℕ) → Committed l l n 0 s a m → Meets l (stepOn l (homeCall c)) a m
+  home-done : (c : ℕ) (s : HomeStep) → s ≡ homeStepOn c H → (a : Answer) (m : List ℕ) → Committed l l n 0 s a m → Meets l (stepOn l (alone c)) a m
   home-done c s is a m made =
-      committed l l (homeCall c) 0 s a m h (result c) (before c) H ts tiles-counted laid (result-sends c) (is ∙ result-is c) (result-step c) (room-as (s .to)) made
-
-  -- the block of a step that is refused before any move
-  abbrev kept : ℕ → HomeBlock
-  kept c = cond (eqb c 0) H (cond (eqb c 1) (numbers.acked H) H)
-
-  refused-early : (c : ℕ) → (refusalOf c H ≡ 0 → ⊥) → homeStepOn c H ≡ numbers.stop (kept c) (refusalOf c H)
-  unfolding homeStepOn refusalOf numbers.stop numbers.memoryStep numbers.memoryAck numbers.evictLine numbers.acked numbers.applied numbers.lined numbers.numbered numbers.worded numbers.wordsFrom numbers.outAfter numbers.forwardOf numbers.numbersIn moves.stop moves.memoryAck moves.evictLine
-  refused-early c = go (eqb c 0) (eqb c 1) (eqb (H .out .a .n0) 0) (eqb (H .back .a .n0) 0) (eqb (H .phase) 0) (eqb (H .line .n0) 0)
-    where
-      go : (a b d e f g : Bool) → (_≡_ {A = ℕ} (cond a (cond d 7 0) (cond b (cond e 7 0) (cond f (cond g 5 0) 6))) 0 → ⊥) →
-          cond a (cond d (numbers.stop H 7) (cond (eqb (H .out .a .n0) 19) (numbers.answer H (H .control .words) (row 24 0 0 0 (H .control .words))) (numbers.answer H (H .out .a .words) (row 25 0 0 0 zeros))))
-          (cond b
-          (numbers.applied (numbers.acked H) (H .back .a .words) (cond e (moves.stop (numbers.numbersIn H) 7) (cond (eqb (H .back .a .n0) 24) (moves.fill (numbers.numbersIn H)) (moves.drop (numbers.numbersIn H)))))
-          (numbers.applied H zeros (cond f (cond g (moves.stop (numbers.numbersIn H) 5) (moves.evictValid (numbers.numbersIn H))) (moves.stop (numbers.numbersIn H) 6))))
-          ≡ numbers.stop (cond a H (cond b (numbers.acked H) H)) (cond a (cond d 7 0) (cond b (cond e 7 0) (cond f (cond g 5 0) 6)))
-      go true b true e f g w = refl
-      go true b false e f g w = absurd (w refl)
-      go false true d true f g w = refl
-      go false true d false f g w = absurd (w refl)
-      go false false d e true true w = refl
-      go false false d e true false w = absurd (w refl)
-      go false false d e false g w = refl
-
-  -- refused before the block is looked at
-  pub home-early : (c k : ℕ) → k ≡ refusalOf c H → (k ≡ 0 → ⊥) → Meets l (stepOn l (homeCall c)) (refusal k) l
-  unfolding numbers.stop
-  home-early c k e wrong =
-      let z : homeStepOn c H ≡ numbers.stop (kept c) k = refused-early c (λ q. wrong (e ∙ q)) ∙ ap (numbers.stop (kept c)) (sym e) in
-      home-done c (numbers.stop (kept c) k) (sym z) (refusal k) l (is-stopped l l n 0 (numbers.stop (kept c) k) (refusal k) l wrong refl refl)
+      committed l l (alone c) 0 s a m h (result c) (before c) H ts tiles-counted laid (result-sends c) (is ∙ result-is c) (result-step c) (room-as (s .to)) made
 
   -- a tile without the front of a queue
   pop1 : (x : Tile) → popped1 (encTile x) ≡ encTile (popNoc1 x)
@@ -319,20 +300,20 @@ module _ (l : List ℕ) (h : wellFormed l ≡ true) where
         subst (λ (z : List ℕ). Laid z H (set ts t y) r) (sym (w ∙ ap (λ (z : TileBlock). over l place (tileWords z)) e)) (write-tile l H ts r laid t y inside (subst TileFull e f))
 
     laid-1 : Laid (popped l (place + 12)) H (set ts t (popNoc1 x)) r
-    unfolding popped popped1 blocks.tileAt
+    unfolding popped1 blocks.tileAt
     laid-1 =
         let f = tile-full l place whole in
         let g = pop-full (blocks.pairAt l (place + 12)) (f .noc1-full) in
         laid-with (popNoc1 x) (popped1 (blocks.tileAt l place)) _ (ap popped1 tile-block ∙ pop1 x) (record { head-full = f .head-full; noc1-full = g; noc2-full = f .noc2-full; noc3-full = f .noc3-full })
-        (sym (over-noc1 l place whole (pop (blocks.pairAt l (place + 12))) g))
+        (popped-at l (place + 12) (λ e. omega arith) ∙ sym (over-noc1 l place whole (pop (blocks.pairAt l (place + 12))) g))
 
     laid-3 : Laid (popped l (place + 60)) H (set ts t (popNoc3 x)) r
-    unfolding popped popped3 blocks.tileAt
+    unfolding popped3 blocks.tileAt
     laid-3 =
         let f = tile-full l place whole in
         let g = pop-full (blocks.pairAt l (place + 60)) (f .noc3-full) in
         laid-with (popNoc3 x) (popped3 (blocks.tileAt l place)) _ (ap popped3 tile-block ∙ pop3 x) (record { head-full = f .head-full; noc1-full = f .noc1-full; noc2-full = f .noc2-full; noc3-full = g })
-        (sym (over-noc3 l place whole (pop (blocks.pairAt l (place + 60))) g))
+        (popped-at l (place + 60) (λ e. omega arith) ∙ sym (over-noc3 l place whole (pop (blocks.pairAt l (place + 60))) g))
 
     -- the front of a queue, read in place
     row-1 : blocks.rowAt l (place + 12) ≡ encTile x .noc1 .a
@@ -358,13 +339,6 @@ module _ (l : List ℕ) (h : wellFormed l ≡ true) where
         let by-step : step (fromTile t) (decoded l) ≡ spread 0 (acceptedHome t (front (noc3 x)) home last marks memory out back) (set ts t y) = from-step ∙ accept-spread t (front (noc3 x)) home last marks memory out back (set ts t y) in
         committed l _ (fromTile t) 0 s a m h (acceptedHome t (front (noc3 x)) home last marks memory out back) B H (set ts t y) (length-set ts t y ∙ tiles-counted) laid-3
         (accept-sends n t (front (noc3 x)) home in-range last marks memory out back) numbers-are by-step (room-as (s .to) ∙ sym (room-with y (same2-3 x) (s .to) n 0)) made
-
-    -- 7: nothing on its NoC3
-    pub from-early : getD l (place + 60) 0 ≡ 0 → Meets l (stepOn l (fromTile t)) (refusal 7) l
-    unfolding numbers.stop numbers.accept numbers.applied numbers.lined numbers.numbered numbers.worded numbers.wordsFrom numbers.outAfter numbers.forwardOf numbers.numbersIn moves.stop moves.accept blocks.rowAt
-    from-early z =
-        let e : numbers.stop H 7 ≡ numbers.accept H t (blocks.rowAt l (place + 60)) = rw z refl in
-        from-done (numbers.stop H 7) e (refusal 7) l (is-stopped l _ n 0 (numbers.stop H 7) (refusal 7) l (λ q. omega arith) refl refl)
 
     -- taking of tile t, where it is the one found
     abbrev line : Line
@@ -395,42 +369,84 @@ module _ (l : List ℕ) (h : wellFormed l ≡ true) where
           committed l _ taking t s a m h (takenHome n t (front (noc1 x)) line marks memory out back) (encHome n (idle line) last marks memory out back) H (set ts t y) cnt laid-1
           (take-sends n t below (front (noc1 x)) line (line-in n (H .line) some-tile) marks memory out back) numbers-are by-step (room-as (s .to) ∙ sym (room-with y (same2-1 x) (s .to) n 0)) made
 
--- what the code's survey tells of the words
-pub formed : (l : List ℕ) (s : Survey) (b : Bool) → s ≡ surveyOf l → s .ok ≡ b → wellFormed l ≡ b
-formed l s b e h = sym (survey-ok l) ∙ sym (ap (λ (z : Survey). z .ok) e) ∙ h
+pub last-there : (l : List ℕ) → wellFormed l ≡ true → getD l 14 0 < getD l 0 0
+unfolding homeAt blocks.rowAt
+last-there l h = last-below l h
 
--- the same, as the code has them: with the numbers that it read
-module _ (l : List ℕ) (h : wellFormed l ≡ true) where
-  pub last-there : getD l 14 0 < getD l 0 0
-  unfolding homeAt blocks.rowAt
-  last-there = last-below l h
+pub of-turn : (l m : List ℕ) (n : ℕ) (d e : Turn) (a : Answer) → d ≡ e → Serves l n d a m → Serves l n e a m
+of-turn l m n d e a p s = subst (λ (z : Turn). Serves l n z a m) p s
 
-  pub busy-there : (getD l 1 0 ≡ 0 → ⊥) → Meets l (stepOn l taking) (refusal 6) l
-  unfolding homeAt
-  busy-there wrong = not-idle l h wrong
+-- the calls as the code makes them, by their turns
+module _ (l : List ℕ) (h : wellFormed l ≡ true) (a : Answer) (m : List ℕ) where
+  abbrev tiles : ℕ
+  tiles = getD l 0 0
 
-  pub from-call : (q : HomeMove) (t : ℕ) (a : Answer) (m : List ℕ) → t < getD l 0 0 → q ≡ acceptAt l t (74 + 84 * t + 60) →
-      Committed l (popped l (74 + 84 * t + 60)) (getD l 0 0) 0 (answering l (74 + 84 * t + 60) q) a m → Meets l (stepOn l (fromTile t)) a m
-  from-call q t a m below is made = from-done l h t below (answering l (74 + 84 * t + 60) q) (as-accept l (found l h .long) (74 + 84 * t + 60) t q (omega arith) is) a m made
+  abbrev X : HomeNumbers
+  X = numbers.numbersIn (homeAt l)
 
-  -- the tile that the code chooses, by the survey s
-  module _ (s : Survey) (es : s ≡ surveyOf l) (t : ℕ) (e : t ≡ chosen (s .ready) (getD l 14 0)) where
-    chosen-there : t ≡ choice l (homeAt l .control .n1) (homeAt l .control .n0) (getD l 0 0)
-    unfolding homeAt blocks.rowAt
-    chosen-there =
-        e ∙ ap (λ (z : Survey). chosen (z .ready) (getD l 14 0)) es ∙ ap (λ (z : ℕ). chosen z (getD l 14 0)) (survey-ready l h)
-        ∙ ready-chosen l (homeAt l .control .n1) (getD l 0 0) (getD l 14 0) (found l h .most) last-there
+  -- a turn that refuses
+  refuses : (k : ℕ) (c : Call) → (k ≡ 0 → ⊥) → Meets l (stepOn l c) (refusal k) l → Serves l tiles (refusing X k) a m → Meets l (stepOn l c) a m
+  unfolding answering numbers.applied moves.stop
+  refuses k c wrong by made =
+      let w = made .stops wrong in
+      record { answer = w .0 ∙ by .answer; words = w .1 ∙ by .words }
 
-    pub small-there : t < 64 → t < getD l 0 0
-    small-there q = subst (λ (y : ℕ). y < getD l 0 0) (sym chosen-there) (chosen-below l h (subst (λ (y : ℕ). y < 64) chosen-there q))
+  -- taking: of tile t, which the round robin chose
+  takes : (t : ℕ) → t ≡ chosen (readyFrom 0 l (getD l 15 0) 0 tiles) (getD l 14 0) → getD l 1 0 ≡ 0 → Serves l tiles (takeAt l tiles t) a m → Meets l (stepOn l taking) a m
+  unfolding takeAt homeAt blocks.rowAt
+  takes t e idle-now = go (ltb t tiles) refl
+    where
+      found-by : t ≡ choice l (getD l 15 0) (getD l 14 0) tiles
+      found-by = e ∙ ready-chosen l (getD l 15 0) tiles (getD l 14 0) (found l h .most) (last-there l h)
 
-    pub nobody-there : getD l 1 0 ≡ 0 → 64 ≤ t → Meets l (stepOn l taking) (refusal 7) l
-    unfolding homeAt
-    nobody-there z q = none-taken l h z (subst (λ (y : ℕ). 64 ≤ y) chosen-there q)
+      go : (b : Bool) → ltb t tiles ≡ b →
+          Serves l tiles (cond b (record { value = t; front = 74 + 84 * t + 12; made = moves.take X t (getD l (74 + 84 * t + 12) 0) }) (refusing X 7)) a m → Meets l (stepOn l taking) a m
+      go true b made =
+          take-done l h t (ltb-true t tiles b) idle-now found-by _ (as-take l (found l h .long) (74 + 84 * t + 12) t (omega arith)) a m made
+      go false b made =
+          refuses 7 taking (λ z. omega arith) (none-taken l h idle-now (past (ltb (choice l (getD l 15 0) (getD l 14 0) tiles) 64) refl)) made
+        where
+          past : (d : Bool) → ltb (choice l (getD l 15 0) (getD l 14 0) tiles) 64 ≡ d → 64 ≤ choice l (getD l 15 0) (getD l 14 0) tiles
+          past true q =
+              let z : choice l (getD l 15 0) (getD l 14 0) tiles < tiles = chosen-below l h (ltb-true _ _ q) in
+              absurd (omega (arith, z, found-by, ltb-false t tiles b))
+          past false q = ltb-false _ _ q
 
-    pub take-there : (x : HomeNumbers) → x ≡ numbers.numbersIn (homeAt l) → (q : HomeMove) (a : Answer) (m : List ℕ) → getD l 1 0 ≡ 0 → t < 64 → q ≡ moves.take x t (getD l (74 + 84 * t + 12) 0) →
-        Committed l (popped l (74 + 84 * t + 12)) (getD l 0 0) t (answering l (74 + 84 * t + 12) q) a m → Meets l (stepOn l taking) a m
-    unfolding homeAt
-    take-there x ex q a m z b is made =
-        let w = is ∙ ap (λ (y : HomeNumbers). moves.take y t (getD l (74 + 84 * t + 12) 0)) ex in
-        take-done l h t (small-there b) z chosen-there (answering l (74 + 84 * t + 12) q) (as-take l (found l h .long) (74 + 84 * t + 12) t q (omega arith) w) a m made
+  taking-serves : Serves l tiles (takingTurn l tiles) a m → Meets l (stepOn l taking) a m
+  unfolding takingTurn homeAt
+  taking-serves = go (eqb (getD l 1 0) 0) refl
+    where
+      go : (b : Bool) → eqb (getD l 1 0) 0 ≡ b → Serves l tiles (cond b (takeAt l tiles (chosen (readyFrom 0 l (getD l 15 0) 0 tiles) (getD l 14 0))) (refusing X 6)) a m → Meets l (stepOn l taking) a m
+      go true b made = takes _ refl (eqb-true (getD l 1 0) 0 b) made
+      go false b made = refuses 6 taking (λ z. omega arith) (not-idle l h (eqb-false (getD l 1 0) 0 b)) made
+
+  from-serves : (t : ℕ) → Serves l tiles (fromTurn l tiles t) a m → Meets l (stepOn l (fromTile t)) a m
+  unfolding fromTurn
+  from-serves t = go (ltb t tiles) refl
+    where
+      go : (b : Bool) → ltb t tiles ≡ b → Serves l tiles (cond b (record { value = 0; front = 74 + 84 * t + 60; made = acceptAt l t (74 + 84 * t + 60) }) (refusing X 2)) a m → Meets l (stepOn l (fromTile t)) a m
+      go true b made = from-done l h t (ltb-true t tiles b) _ (as-accept l (found l h .long) (74 + 84 * t + 60) t (omega arith)) a m made
+      go false b made = refuses 2 (fromTile t) (λ z. omega arith) (no-from l h t (ltb-false t tiles b)) made
+
+  ack-serves : Serves l tiles (ackTurn l) a m → Meets l (stepOn l memoryAck) a m
+  unfolding ackTurn alone homeStepOn
+  ack-serves made = home-done l h 1 _ refl a m (on-ack l (found l h .long) tiles 0 a m made)
+
+  evict-serves : Serves l tiles (evictTurn l) a m → Meets l (stepOn l homeEviction) a m
+  unfolding evictTurn alone homeStepOn
+  evict-serves made = home-done l h 2 _ refl a m (on-evict l (found l h .long) tiles 0 a m made)
+
+  pub memory-serves : (c t : ℕ) → c ≡ 22 → Committed l l tiles 0 (numbers.memoryStep (homeAt l)) a m → Meets l (stepOn l (homeCall c t)) a m
+  unfolding homeCall alone homeStepOn
+  memory-serves c t e made = rw e (home-done l h 0 _ refl a m made)
+
+  pub serves : (c t : ℕ) → (c ≡ 22 → ⊥) → Serves l tiles (turnOf l tiles c t) a m → Meets l (stepOn l (homeCall c t)) a m
+  unfolding turnOf homeCall
+  serves c t other = go (eqb c 19) (eqb c 21) (eqb c 22) (ne-eqb c 22 other) (eqb c 23)
+    where
+      go : (b d e : Bool) → e ≡ false → (f : Bool) → Serves l tiles (cond b (takingTurn l tiles) (cond d (fromTurn l tiles t) (cond f (ackTurn l) (evictTurn l)))) a m →
+          Meets l (stepOn l (cond b taking (cond d (fromTile t) (cond e memoryStep (cond f memoryAck homeEviction))))) a m
+      go true d e q f made = taking-serves made
+      go false true e q f made = from-serves t made
+      go false false e q true made = rw q (ack-serves made)
+      go false false e q false made = rw q (evict-serves made)

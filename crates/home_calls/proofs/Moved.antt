@@ -6,43 +6,59 @@ use native.Mathlib.Omega.{arith}
 use lib.ListN.{length, getD}
 use borrow.Author.Tests.{ne-eqb}
 use Rattle.words.specs.declared.HomeBlock.{HomeBlock}
-use Rattle.words.specs.Blocks.{over, rowAt, pairAt, homeAt, homeWords}
+use Rattle.words.specs.Blocks.{over, rowAt, pairAt, homeAt, homeWords, pairWords}
 use Rattle.words.proofs.Reading.{pair-full}
-use Rattle.codec.specs.Encode.{zeros}
-use Rattle.home_parts.specs.declared.HomeNumbers.{HomeNumbers}
+use Rattle.queue_words.specs.Queues.{pop}
 use Rattle.home_parts.specs.declared.HomeMove.{HomeMove}
 use Rattle.home_parts.specs.declared.HomeStep.{HomeStep}
 use Rattle.home_parts.specs.Moves as moves
-use Rattle.home_parts.specs.Numbers.{numbersIn, applied, acked, take, accept, memoryAck, evictLine, memoryStep}
-use Rattle.home_words.specs.InPlace.{Homed}
-use Rattle.home_words.proofs.Parts.{home-home, home-read, acked-at}
-use Rattle.bench_words.specs.declared.Answer.{Answer}
-use Rattle.posts.specs.Post.{tellAll, popped, answering, Finishes, Committed}
-use Rattle.posts.proofs.Places.{pop-full, home-untouched}
-use Rattle.home_calls.specs.Taken.{homeStepOn, acceptAt}
+use Rattle.home_parts.specs.Numbers.{numbersIn, applied, acked, take, accept, memoryAck, evictLine}
+use Rattle.home_numbers.specs.InPlace.{Homed}
+use Rattle.home_numbers.proofs.Parts.{home-home, home-read, acked-at}
+use Rattle.answers.specs.declared.Answer.{Answer}
+use Rattle.tells.specs.Tells.{tellAll}
+use Rattle.tells.proofs.Places.{pop-full, home-untouched}
+use Rattle.posts.specs.Post.{popped, frontWords, answering, Finishes, Committed}
+use Rattle.home_turns.specs.Turns.{acceptAt}
+
+module _ (l : List ℕ) where
+  -- at a place of a queue
+  pub popped-at : (at : ℕ) → (at ≡ 0 → ⊥) → popped l at ≡ over l at (pairWords (pop (pairAt l at)))
+  unfolding popped
+  popped-at at h = rw (ne-eqb at 0 h)
+
+  front-at : (at : ℕ) → (at ≡ 0 → ⊥) → frontWords l at ≡ rowAt l at .words
+  unfolding frontWords
+  front-at at h = rw (ne-eqb at 0 h)
 
 module _ (l : List ℕ) (long : 74 ≤ length l) where
   abbrev H : HomeBlock
   H = homeAt l
 
   -- the front message of a tile's queue taken off
-  pub as-accept : (at t : ℕ) (q : HomeMove) → 74 ≤ at → q ≡ acceptAt l t at → answering l at q ≡ accept H t (rowAt l at)
-  unfolding answering popped accept acceptAt rowAt
-  as-accept at t q h e = ap (λ (z : HomeBlock). applied z (rowAt l at .words) q) (home-untouched l at _ long h) ∙ ap (applied H (rowAt l at .words)) e
+  off-tile : (at : ℕ) (q : HomeMove) → 74 ≤ at → answering l at q ≡ applied H (rowAt l at .words) q
+  unfolding answering
+  off-tile at q h =
+      let z : at ≡ 0 → ⊥ = λ e. omega arith in
+      ap (λ (ws : List ℕ). applied (homeAt (popped l at)) ws q) (front-at l at z) ∙ ap (λ (x : HomeBlock). applied x (rowAt l at .words) q) (ap homeAt (popped-at l at z) ∙ home-untouched l at _ long h)
 
-  pub as-take : (at t : ℕ) (q : HomeMove) → 74 ≤ at → q ≡ moves.take (numbersIn H) t (getD l at 0) → answering l at q ≡ take H t (rowAt l at)
-  unfolding answering popped take rowAt
-  as-take at t q h e = ap (λ (z : HomeBlock). applied z (rowAt l at .words) q) (home-untouched l at _ long h) ∙ ap (applied H (rowAt l at .words)) e
+  pub as-accept : (at t : ℕ) → 74 ≤ at → answering l at (acceptAt l t at) ≡ accept H t (rowAt l at)
+  unfolding accept acceptAt rowAt
+  as-accept at t h = off-tile at (acceptAt l t at) h
+
+  pub as-take : (at t : ℕ) → 74 ≤ at → answering l at (moves.take (numbersIn H) t (getD l at 0)) ≡ take H t (rowAt l at)
+  unfolding take rowAt
+  as-take at t h = off-tile at (moves.take (numbersIn H) t (getD l at 0)) h
 
   -- the front message from memory taken off
   back-popped : Homed l (acked H) (popped l 50)
-  unfolding popped
-  back-popped = acked-at l _ long (pop-full (pairAt l 50) (pair-full l 50 (omega arith))) refl
+  back-popped = acked-at l _ long (pop-full (pairAt l 50) (pair-full l 50 (omega arith))) (popped-at l 50 (λ e. omega arith))
 
-  as-ack : (q : HomeMove) → q ≡ moves.memoryAck (numbersIn H) (getD l 50 0) → answering l 50 q ≡ memoryAck H
+  as-ack : answering l 50 (moves.memoryAck (numbersIn H) (getD l 50 0)) ≡ memoryAck H
   unfolding answering memoryAck homeAt pairAt rowAt
-  as-ack q e =
-      ap (λ (z : HomeBlock). applied z (rowAt l 50 .words) q) (home-read l (popped l 50) (acked H) back-popped) ∙ ap (applied (acked H) (rowAt l 50 .words)) e
+  as-ack =
+      let q : HomeMove = moves.memoryAck (numbersIn H) (getD l 50 0) in
+      ap (λ (ws : List ℕ). applied (homeAt (popped l 50)) ws q) (front-at l 50 (λ e. omega arith)) ∙ ap (λ (z : HomeBlock). applied z (rowAt l 50 .words) q) (home-read l (popped l 50) (acked H) back-popped)
 
   module _ (n v : ℕ) (a : Answer) (m : List ℕ) where
     over-back : (s : HomeStep) → Finishes (popped l 50) n s m → Finishes l n s m
@@ -59,19 +75,10 @@ module _ (l : List ℕ) (long : 74 ≤ length l) where
           done = λ z t. (p .done z t .0, over-back s (p .done z t .1));
         }
 
-    -- the three calls at the home alone
-    pub on-step : (c : ℕ) → c ≡ 0 → Committed l l n v (memoryStep H) a m → Committed l l n v (homeStepOn c H) a m
-    unfolding homeStepOn
-    on-step c e p = rw e p
+    -- the home alone
+    pub on-ack : Committed l (popped l 50) n v (answering l 50 (moves.memoryAck (numbersIn H) (getD l 50 0))) a m → Committed l l n v (memoryAck H) a m
+    on-ack p = commit-back (memoryAck H) (subst (λ (s : HomeStep). Committed l (popped l 50) n v s a m) as-ack p)
 
-    pub on-ack : (c : ℕ) (x : HomeNumbers) (q : HomeMove) → c ≡ 1 → x ≡ numbersIn H → q ≡ moves.memoryAck x (getD l 50 0) → Committed l (popped l 50) n v (answering l 50 q) a m → Committed l l n v (homeStepOn c H) a m
-    unfolding homeStepOn
-    on-ack c x q e f g p = rw e (commit-back (memoryAck H) (subst (λ (s : HomeStep). Committed l (popped l 50) n v s a m) is p))
-      where
-        is : answering l 50 q ≡ memoryAck H
-        is = as-ack q (g ∙ ap (λ (y : HomeNumbers). moves.memoryAck y (getD l 50 0)) f)
-
-    pub on-evict : (c : ℕ) (x : HomeNumbers) (q : HomeMove) → (c ≡ 0 → ⊥) → (c ≡ 1 → ⊥) → x ≡ numbersIn H → q ≡ moves.evictLine x → Committed l l n v (applied H zeros q) a m → Committed l l n v (homeStepOn c H) a m
-    unfolding homeStepOn evictLine
-    on-evict c x q e1 e2 f g p =
-        rw (ne-eqb c 0 e1, ne-eqb c 1 e2) (subst (λ (z : HomeMove). Committed l l n v (applied H zeros z) a m) (g ∙ ap moves.evictLine f) p)
+    pub on-evict : Committed l (popped l 0) n v (answering l 0 (moves.evictLine (numbersIn H))) a m → Committed l l n v (evictLine H) a m
+    unfolding answering popped frontWords evictLine
+    on-evict p = p

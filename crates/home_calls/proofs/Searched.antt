@@ -9,8 +9,8 @@ use native.Mathlib.Numerals.{add-one}
 use lib.Dec.{ltb}
 use lib.ListN.{length, getD}
 use borrow.Author.Tests.{lt-ltb, ltb-true, ltb-false}
-use Rattle.bits.specs.Mask.{has}
-use Rattle.bits.proofs.MaskLaws.{has-none}
+use Rattle.masks.specs.Mask.{has}
+use Rattle.masks.proofs.MaskLaws.{has-none}
 use Rattle.words.specs.declared.TileBlock.{TileBlock}
 use Rattle.words.specs.declared.HomeBlock.{HomeBlock}
 use Rattle.words.specs.Blocks as blocks
@@ -18,11 +18,19 @@ use Rattle.protocol.specs.Parts.{empty, one, two, loadReq, storeReq, wbGuardReq
 use Rattle.protocol.specs.Home.{range}
 use Rattle.protocol.specs.Bench.{tileAt, eligible, firstOf, circle, arbitrate}
 use Rattle.codec.specs.Encode.{encRequest, encQueue, encTile}
-use Rattle.bench_words.specs.Survey.{mayTake, canTake, readyFrom}
-use Rattle.bench_words.proofs.Ready.{ready-has, ready-past}
+use Rattle.round_robin.specs.Ready.{mayTake, canTake, readyFrom, chosen}
+use Rattle.round_robin.proofs.Ready.{ready-has, ready-past}
 use Rattle.find_first.specs.Next.{firstIn, next}
-use Rattle.home_calls.specs.Taken.{firstFrom, choice, chosen}
-use Rattle.bench_words.proofs.Laid.{Laid, laid-tile}
+use Rattle.calls.proofs.Laid.{Laid, laid-tile}
+
+-- the first of n tiles from tile i on that may be taken; 64 for none
+unfoldable pub firstFrom : List ℕ → ℕ → ℕ → ℕ → ℕ
+firstFrom l k i ℕ.zero = 64
+firstFrom l k i (suc n) = cond (canTake l k i) i (firstFrom l k (i + 1) n)
+
+-- after the last taken, then from tile 0 up to it
+unfoldable pub choice : List ℕ → ℕ → ℕ → ℕ → ℕ
+choice l k last n = cond (ltb (firstFrom l k (last + 1) (n - (last + 1))) 64) (firstFrom l k (last + 1) (n - (last + 1))) (firstFrom l k 0 (last + 1))
 
 may-take : (mark : Bool) (x : Tile) → mayTake mark (encTile x .noc1 .a .n0) ≡ eligible mark x
 unfolding mayTake encTile encQueue encRequest eligible
@@ -161,7 +169,7 @@ module _ (l : List ℕ) (k n R : ℕ) (small : n ≤ 64) (in-it : (j : ℕ) → 
           all ∙ ap (firstFrom l k 0) z
           ∙ none-behind (last + 1) 0 (n - (last + 1)) (ap (λ (x : ℕ). firstFrom l k x (n - (last + 1))) y ∙ none-is-64 (n - (last + 1)) (last + 1) (omega arith) (ltb-false _ _ t))
 
--- and that mask is the survey's
+-- and that mask is that of the tiles that may be taken
 pub ready-chosen : (l : List ℕ) (k n last : ℕ) → n ≤ 64 → last < n → chosen (readyFrom 0 l k 0 n) last ≡ choice l k last n
 ready-chosen l k n last s h =
     chosen-is l k n (readyFrom 0 l k 0 n) s (λ j b. ready-has l k n 0 0 j (omega arith) (λ u _. has-none u) (omega arith) (omega arith)) (λ j b. ready-past l k n 0 0 j (omega arith) (λ u _. has-none u) (omega arith)) last h

@@ -3,7 +3,7 @@
 use Prim.Native.Nat.{ℕ}
 use mathlib.Core.Bool.{cond}
 use lib.Dec.{eqb}
-use Rattle.bits.specs.Mask.{has, add64, del}
+use Rattle.masks.specs.Mask.{has, add64, del}
 use Rattle.home_parts.specs.declared.HomeNumbers.{HomeNumbers}
 use Rattle.home_parts.specs.declared.HomeMove.{HomeMove}
 

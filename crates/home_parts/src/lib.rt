@@ -190,7 +190,7 @@ pub fn grant(
     ensures { λ s. ⌜ s ≡ grant x dirty source directory tiles right miss t ⌝ }
 {
     let y = set_home(x, 0, 1, dirty, directory, tiles, 0, 0);
-    tell(y, source, bits::add(0, t), 29, right, miss)
+    tell(y, source, masks::add(0, t), 29, right, miss)
 }
 
 // A forward of type k to the owner, in phase p, on behalf of r.
@@ -198,7 +198,7 @@ pub fn ask(x: HomeNumbers, owner: u64, p: u64, r: u64, k: u64) -> HomeMove
     ensures { λ s. ⌜ s ≡ ask x owner p r k ⌝ }
 {
     let y = set_home(x, p, 1, x.dirty, 2, owner, r, 0);
-    tell(y, 0, bits::add(0, owner), k, 0, 0)
+    tell(y, 0, masks::add(0, owner), k, 0, 0)
 }
 
 // INV_FWD to the tiles owed, in phase p, on behalf of r. The mask stays.

@@ -9,7 +9,7 @@ fn keep(x: HomeNumbers, t: u64, dir: u64, tiles: u64) -> HomeMove
     ensures { λ s. ⌜ s ≡ keep x t dir tiles ⌝ }
 {
     let y = home_parts::set_home(x, x.phase, 1, 1, dir, tiles, x.requester, x.owed);
-    home_parts::quiet(home_parts::set_taken(y, x.last, bits::add(x.marks, t)), 2)
+    home_parts::quiet(home_parts::set_taken(y, x.last, masks::add(x.marks, t)), 2)
 }
 
 fn keep_idle(x: HomeNumbers, t: u64) -> HomeMove
@@ -52,7 +52,7 @@ fn keep_unmarked(x: HomeNumbers, t: u64) -> HomeMove
 fn write_back(x: HomeNumbers, t: u64) -> HomeMove
     ensures { λ s. ⌜ s ≡ writeBack x t ⌝ }
 {
-    if bits::has(x.marks, t) {
+    if masks::has(x.marks, t) {
         home_parts::stop(x, 8)
     } else {
         keep_unmarked(x, t)
@@ -77,7 +77,7 @@ fn shared_now(x: HomeNumbers, owner: u64, r: u64, f: u64) -> HomeMove
 {
     let dirty = ack_dirty(f, x.dirty);
     let source = ack_source(f);
-    let mask = bits::add(bits::add(0, owner), r);
+    let mask = masks::add(masks::add(0, owner), r);
     home_parts::grant(x, dirty, source, 1, mask, 1, 0, r)
 }
 
@@ -176,8 +176,8 @@ fn one_less(x: HomeNumbers, owed: u64) -> HomeMove
 fn owed_ack(x: HomeNumbers, t: u64) -> HomeMove
     ensures { λ s. ⌜ s ≡ owedAck x t ⌝ }
 {
-    if bits::has(x.owed, t) {
-        one_less(x, bits::del(x.owed, t))
+    if masks::has(x.owed, t) {
+        one_less(x, masks::del(x.owed, t))
     } else {
         home_parts::stop(x, 8)
     }

@@ -19,9 +19,9 @@ fn serve_shared(x: HomeNumbers, t: u64, k: u64) -> HomeMove
     ensures { λ s. ⌜ s ≡ serveShared x t k ⌝ }
 {
     if k == 31 {
-        home_parts::grant(x, x.dirty, 0, 1, bits::add(x.tiles, t), 1, 0, t)
+        home_parts::grant(x, x.dirty, 0, 1, masks::add(x.tiles, t), 1, 0, t)
     } else {
-        let owed = bits::del(x.tiles, t);
+        let owed = masks::del(x.tiles, t);
         if owed == 0 {
             home_parts::grant(x, x.dirty, 0, 2, t, 3, 0, t)
         } else {
@@ -70,7 +70,7 @@ fn serve(x: HomeNumbers, t: u64, k: u64) -> HomeMove
 fn guard(x: HomeNumbers, t: u64) -> HomeMove
     ensures { λ s. ⌜ s ≡ guard x t ⌝ }
 {
-    let marks = bits::del(x.marks, t);
+    let marks = masks::del(x.marks, t);
     home_parts::quiet(home_parts::set_taken(x, t, marks), 0)
 }
 

@@ -8,8 +8,8 @@ use Prim.Native.Nat.{ℕ, _^_, _<_}
 use native.Mathlib.Omega.{arith}
 use lib.Dec.{eqb}
 use borrow.Author.Tests.{eqb-false}
-use Rattle.bits.specs.Mask.{has, add, del}
-use Rattle.bits.proofs.MaskLaws.{del-lt}
+use Rattle.masks.specs.Mask.{has, add, del}
+use Rattle.masks.proofs.MaskLaws.{del-lt}
 use Rattle.protocol.specs.Parts.{Words, Queue, one, Access, reading, writing, Right, shared, exclusive, modified, Request, loadReq, storeReq, wbGuardReq, Forward, invFwd, dataAck, Reply, wbReq, loadFwdAckS, loadFwdAckI, storeFwdAck, invFwdAck, ToMemory, loadMem, storeMem, FromMemory, loadMemAck, storeMemAck, onNoc2, toMemory, fromMemory, uncached, sharedBy, ownedBy, Line, absent, present, Cause, request, eviction, Clearing, clearForStore, clearForEviction, Home, idle, awaitingLoad, awaitingOwner, awaitingAcks, awaitingStore}
 use Rattle.protocol.specs.Home.{Move, move, grantShared, grantOwner, askedFor, askOwner, invalidateTo, invalidate, leave, serve, writeBack, loadAckS, loadAckI, storeAck, cleared, invAck, acknowledged, evictLine, dirtyAfter, wordsAfter, ownRight}
 use Rattle.protocol.specs.Bench.{push, front, rest}

@@ -4,7 +4,7 @@ use mathlib.Core.Path.{_≡_, refl, ap, sym, _∙_}
 use mathlib.Core.List.{List, [], _∷_}
 use mathlib.Core.Option.{Option, some, none, Option·map}
 use lib.ListN.{length, set}
-use Rattle.bits.specs.Mask.{has}
+use Rattle.masks.specs.Mask.{has}
 use Rattle.protocol.specs.Parts.{Words, Queue, reading, writing, Request, loadReq, storeReq, wbGuardReq, Reply, wbReq, loadFwdAckS, loadFwdAckI, storeFwdAck, invFwdAck, ToMemory, loadMem, storeMem, FromMemory, loadMemAck, storeMemAck, Message, onNoc1, onNoc2, onNoc3, toMemory, fromMemory, Tile, Line, absent, present, Home, idle, awaitingLoad, awaitingOwner, awaitingAcks, awaitingStore, Bench, benchOf}
 use Rattle.protocol.specs.Home.{Move, move, serve, writeBack, loadAckS, loadAckI, storeAck, invAck, acknowledged, evictLine}
 use Rattle.protocol.specs.Bench.{tileAt, push, front, rest, onTile1, onTile2, onTile3, sendOne, sendTo, send, sent, posted, kindOf, served, take, writtenBack, moved, accept, memoryServes, memoryStepOn, acceptAck, memoryAckOn, homeEvictionOn}

@@ -7,8 +7,8 @@ use Prim.Native.Nat.{ℕ, _^_, _≤_, _<_}
 use native.Mathlib.Omega.{arith}
 use lib.Dec.{eqb}
 use borrow.Author.Tests.{eqb-false}
-use Rattle.bits.specs.Mask.{has, add, add64, del}
-use Rattle.bits.proofs.MaskLaws.{del-lt}
+use Rattle.masks.specs.Mask.{has, add, add64, del}
+use Rattle.masks.proofs.MaskLaws.{del-lt}
 use Rattle.words.specs.declared.Row.{Row}
 use Rattle.words.specs.declared.HomeBlock.{HomeBlock}
 use Rattle.codec.specs.Encode.{zeros, noRow, flag, rightNumber, encRequest, encForward, encReply, encToMemory, encFromMemory, encQueue, directoryNumber, directoryTiles, encLine, lineOf, phaseNumber, requester, owedTiles, encHome}

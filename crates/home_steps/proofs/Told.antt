@@ -8,8 +8,8 @@ use native.Mathlib.Omega.{arith}
 use lib.Dec.{eqb}
 use lib.Pow.{pow-pos}
 use borrow.Author.Tests.{eqb-true, eqb-false, lt-ltb}
-use Rattle.bits.specs.Mask.{has, add, add64}
-use Rattle.bits.proofs.MaskLaws.{has-add, has-add-other, has-none, add-lt, ext}
+use Rattle.masks.specs.Mask.{has, add, add64}
+use Rattle.masks.proofs.MaskLaws.{has-add, has-add-other, has-none, add-lt, ext}
 use Rattle.words.specs.declared.HomeBlock.{HomeBlock}
 use Rattle.codec.specs.Encode.{encForward, encHome}
 use Rattle.protocol.specs.Parts.{Words, Queue, Forward, ToMemory, FromMemory, onNoc2, Home}

@@ -5,7 +5,7 @@ use mathlib.Core.Path.{_≡_}
 use mathlib.Core.Bool.{Bool, cond, true, false}
 use mathlib.Core.List.{List, [], _∷_, map}
 use mathlib.Core.Option.{Option, some, none, Option·map}
-use Rattle.bits.specs.Mask.{has, add, del, add64}
+use Rattle.masks.specs.Mask.{has, add, del, add64}
 use Rattle.words.specs.declared.Row.{Row}
 use Rattle.words.specs.declared.HomeBlock.{HomeBlock}
 use Rattle.codec.specs.Encode.{noRow, encForward, encHome}

@@ -1,68 +1,26 @@
-// The home's block where it stands, at the front of a bench's words: its numbers read, and a move made in place, which writes only what it
-// changes. Messages to and from memory are put on their queues here; those for tiles are crate posts' business.
+// A move of the home made in place on its block, at the front of a bench's words: it writes only what it changes. Messages to and from memory are
+// put on their queues here; those for tiles are crate posts' business.
 ghost use mathlib.Core.Path.{_≡_};
 ghost use Prim.Native.Nat.{_≤_};
 ghost use lib.ListN.{length};
 ghost use Rattle.words.specs.Blocks.{homeAt};
-ghost use Rattle.home_parts.specs.Numbers.{numbersIn, numbered, worded, filed, outAfter, forwardOf};
-ghost use Rattle.home_words.specs.InPlace.{Homes, phased, controlled, remembered, served, answered, sourced, moved, stepped};
+ghost use Rattle.home_parts.specs.Numbers.{worded, filed, outAfter, forwardOf};
+ghost use Rattle.home_numbers.specs.InPlace.{Homes, remembered, served, answered, sourced, moved, stepped};
 use home_parts::HomeMove;
-use home_parts::HomeNumbers;
 use words::Row;
-
-pub fn numbers_in(w: &[u64]) -> HomeNumbers
-    requires { ⌜ 74 ≤ length (now w) ⌝ }
-    ensures { λ r. ⌜ r ≡ numbersIn (homeAt (now (w .entry))) ⌝ }
-{
-    HomeNumbers {
-        phase: w[1],
-        valid: w[2],
-        dirty: w[3],
-        directory: w[4],
-        tiles: w[5],
-        last: w[14],
-        marks: w[15],
-        requester: w[16],
-        owed: w[17],
-        second: w[38],
-    }
-}
-
-fn phase_at(w: &mut [u64], p: u64, a: u64, b: u64, c: u64, d: u64)
-    requires { ⌜ 74 ≤ length (now w) ⌝ }
-    ensures { λ _. ⌜ Homes (now (w .entry)) (phased p a b c d) (now (w .exit)) ⌝ }
-{
-    w[1] = p;
-    queue_words::four(w, 2, a, b, c, d);
-}
-
-fn control_at(w: &mut [u64], a: u64, b: u64, c: u64, d: u64)
-    requires { ⌜ 74 ≤ length (now w) ⌝ }
-    ensures { λ _. ⌜ Homes (now (w .entry)) (controlled a b c d) (now (w .exit)) ⌝ }
-{
-    queue_words::four(w, 14, a, b, c, d);
-}
-
-fn numbers_at(w: &mut [u64], x: HomeNumbers)
-    requires { ⌜ 74 ≤ length (now w) ⌝ }
-    ensures { λ _. ⌜ Homes (now (w .entry)) (numbered x) (now (w .exit)) ⌝ }
-{
-    phase_at(w, x.phase, x.valid, x.dirty, x.directory, x.tiles);
-    control_at(w, x.last, x.marks, x.requester, x.owed);
-}
 
 fn line_at(w: &mut [u64], d: [u64; 8])
     requires { ⌜ 74 ≤ length (now w) ⌝ }
     ensures { λ _. ⌜ Homes (now (w .entry)) (worded d) (now (w .exit)) ⌝ }
 {
-    queue_words::eight(w, 6, d);
+    words::write_eight(w, 6, d);
 }
 
 fn memory_at(w: &mut [u64], d: [u64; 8])
     requires { ⌜ 74 ≤ length (now w) ⌝ }
     ensures { λ _. ⌜ Homes (now (w .entry)) (remembered d) (now (w .exit)) ⌝ }
 {
-    queue_words::eight(w, 18, d);
+    words::write_eight(w, 18, d);
 }
 
 fn file_at(w: &mut [u64], m: Row)
@@ -121,7 +79,7 @@ pub fn move_at(w: &mut [u64], m: HomeMove, d: [u64; 8])
     requires { ⌜ 74 ≤ length (now w) ⌝ }
     ensures { λ _. ⌜ Homes (now (w .entry)) (moved d m) (now (w .exit)) ⌝ }
 {
-    numbers_at(w, m.home);
+    home_numbers::numbers_at(w, m.home);
     source_at(w, m.source, d);
     out_at(w, m.filed);
 }

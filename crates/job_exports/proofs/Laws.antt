@@ -3,15 +3,15 @@ use Prim.Native.Nat.{ℕ}
 use mathlib.Core.Path.{_≡_, ap, subst, _∙_}
 use mathlib.Core.List.{List, [], _∷_}
 use Rattle.protocol.specs.Parts.{Call}
-use Rattle.bench_words.specs.declared.Answer.{Answer}
-use Rattle.bench_words.specs.Calls.{stepOn, answerOf, wordsAfter}
-use Rattle.bench.specs.Runs.{answerTo, afterCall}
+use Rattle.answers.specs.declared.Answer.{Answer}
+use Rattle.calls.specs.Calls.{stepOn, answerOf, wordsAfter}
+use Rattle.theorems.specs.Runs.{answerTo, afterCall}
 use Rattle.job_format.specs.declared.JobCall.{JobCall}
 use Rattle.job_format.specs.Job.{callOf}
-use Rattle.jobs.specs.Run.{benchCall}
+use Rattle.job_rules.specs.Run.{benchCall}
 use Rattle.answer_lines.specs.Pieces.{AllPlaced, buffersAfter, placesAfter}
 use Rattle.answer_lines.specs.Answer.{answerLines}
-use Rattle.job_lines.specs.Listing.{callLines}
+use Rattle.job_rules.specs.Listing.{callLines}
 use Rattle.telling.specs.Told.{told}
 
 -- a job's call

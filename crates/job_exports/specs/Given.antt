@@ -3,7 +3,7 @@ use Prim.Native.Nat.{ℕ}
 use mathlib.Core.List.{List}
 use Rattle.protocol.specs.Parts.{Call}
 use Rattle.job_format.specs.Job.{jobCallAt, callOf}
-use Rattle.jobs.specs.Run.{benchCall}
+use Rattle.job_rules.specs.Run.{benchCall}
 
 -- the bench's call that stands at a place of a job
 abbrev pub callIn : List ℕ → ℕ → Call

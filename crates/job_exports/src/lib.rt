@@ -1,10 +1,10 @@
 // The calls of a job made one by one, with their lines of the listing.
 ghost use mathlib.Core.Path.{_≡_};
 ghost use mathlib.Core.List.{_∷_, []};
-ghost use Rattle.bench_words.specs.Calls.{stepOn, answerOf, wordsAfter};
+ghost use Rattle.calls.specs.Calls.{stepOn, answerOf, wordsAfter};
 ghost use Rattle.job_format.specs.Job.{jobCallAt};
 ghost use Rattle.answer_lines.specs.Pieces.{buffersAfter, placesAfter};
-ghost use Rattle.job_lines.specs.Listing.{callLines};
+ghost use Rattle.job_rules.specs.Listing.{callLines};
 ghost use Rattle.telling.specs.Told.{told};
 ghost use Rattle.job_exports.specs.Given.{callIn};
 use telling::tell_two;

@@ -1,10 +1,10 @@
 // A call of a job made on the bench in lent words, with its lines of the listing written into a lent buffer (01, 'Jobs').
 ghost use mathlib.Core.Path.{_≡_};
-ghost use Rattle.bench.specs.Runs.{afterCall};
+ghost use Rattle.theorems.specs.Runs.{afterCall};
 ghost use Rattle.job_format.specs.Job.{callOf};
-ghost use Rattle.jobs.specs.Run.{benchCall};
+ghost use Rattle.job_rules.specs.Run.{benchCall};
 ghost use Rattle.answer_lines.specs.Pieces.{AllPlaced};
-ghost use Rattle.job_lines.specs.Listing.{callLines};
+ghost use Rattle.job_rules.specs.Listing.{callLines};
 pub use answer_lines::answer_lines;
 use job_format::JobCall;
 

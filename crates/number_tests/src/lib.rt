@@ -1,11 +1,11 @@
-// Tests of single numbers of a bench's blocks: below a bound, and what a type, a waiting access or a phase asks of the numbers beside it.
+// Tests of single numbers of a bench's blocks: below a bound, and what a type or a waiting access asks of the numbers beside it.
 ghost use mathlib.Core.Path.{_≡_};
 ghost use mathlib.Core.Bool.{_&&_};
 ghost use Prim.Native.Nat.{_%_, _^_, _<_};
 ghost use lib.Dec.{eqb};
 ghost use Rattle.codec.specs.Encode.{flag, rightNumber, directoryNumber, directoryTiles};
 ghost use Rattle.codec.specs.Decode.{isSet, decRight, decDirectory};
-ghost use Rattle.number_tests.specs.Numbers.{requestWordOk, replyNumbersOk, waitingNumbersOk, phaseNumbersOk};
+ghost use Rattle.number_tests.specs.Numbers.{requestWordOk, replyNumbersOk, waitingNumbersOk};
 
 pub fn below(x: u64, n: u64) -> bool
     requires { ⌜ 0 < n ⌝ }
@@ -91,25 +91,6 @@ pub fn directory_ok(d: u64, x: u64, n: u64) -> bool
         0 => x == 0,
         1 => in_mask(x, n),
         2 => below(x, n),
-        _ => false,
-    }
-}
-
-// The phase p of a home with directory d: the requester, and the tiles still owed.
-pub fn phase_numbers_ok(n: u64, p: u64, d: u64, by: u64, owed: u64) -> bool
-    requires { ⌜ 0 < n ⌝ }
-    ensures { λ r. ⌜ r ≡ phaseNumbersOk n p d by owed ⌝ }
-{
-    match p {
-        0 => (by | owed) == 0,
-        1 => (by < n) & (owed == 0),
-        2 => (by < n) & (owed == 0),
-        3 => (d == 2) & (by < n) & (owed == 0),
-        4 => (d == 2) & (by < n) & (owed == 0),
-        5 => (d == 2) & ((by | owed) == 0),
-        6 => (d == 1) & (by < n) & in_mask(owed, n),
-        7 => (d == 1) & (by == 0) & in_mask(owed, n),
-        8 => (by | owed) == 0,
         _ => false,
     }
 }

@@ -7,31 +7,32 @@ use native.Mathlib.Omega.{arith}
 use lib.Dec.{eqb}
 use lib.ListN.{length, getD, drop}
 use borrow.Author.Tests.{eqb-true, eqb-false}
-use Rattle.bits.specs.Mask.{has}
+use Rattle.masks.specs.Mask.{has}
 use Rattle.words.specs.declared.HomeBlock.{HomeBlock}
-use Rattle.words.specs.Blocks.{over, homeAt, homeWords}
+use Rattle.words.specs.Blocks.{need, over, homeAt, homeWords, rowAt, pairAt, pairWords}
 use Rattle.protocol.specs.Parts.{Tile, Call}
 use Rattle.protocol.specs.Bench.{step}
 use Rattle.codec.specs.Decode.{decoded}
 use Rattle.queue_words.specs.Queues.{room, pop}
 use Rattle.home_parts.specs.declared.HomeStep.{HomeStep}
 use Rattle.home_steps.specs.Rules.{HomeResult, spread, encStep, Sends}
-use Rattle.bench_words.specs.declared.Answer.{Answer}
-use Rattle.bench_words.specs.Calls.{need, wellFormed, stepOn, answerOf, wordsAfter, refusal}
-use Rattle.posts.specs.Post.{oneRoom, rooms, tellAll, homeAnswer, moveAnswer, popped, answering, Finishes, Committed}
+use Rattle.answers.specs.declared.Answer.{Answer}
+use Rattle.calls.specs.Calls.{wellFormed, stepOn, answerOf, wordsAfter}
+use Rattle.answers.specs.Answers.{refusal}
+use Rattle.tells.specs.Tells.{oneRoom, rooms, tellAll}
+use Rattle.posts.specs.Post.{homeAnswer, moveAnswer, popped, frontWords, answering, Finishes, Committed}
 use Rattle.words.specs.declared.Row.{Row}
-use Rattle.words.specs.Blocks.{rowAt, pairAt, pairWords}
-use Rattle.bits.proofs.MaskLaws.{has-none}
+use Rattle.masks.proofs.MaskLaws.{has-none}
 use Rattle.codec.specs.Encode.{zeros, row, noRow}
 use Rattle.home_parts.specs.declared.HomeMove.{HomeMove}
 use Rattle.home_parts.specs.Numbers.{stepOf, stop, filed, outAfter, forwardOf, lined, applied, answer, memoryStep}
-use Rattle.home_words.specs.InPlace.{Homes, moved, stepped}
-use Rattle.home_words.proofs.Parts.{home-read}
-use Rattle.posts.proofs.Turns.{and-true}
+use Rattle.home_numbers.specs.InPlace.{Homes, moved, stepped}
+use Rattle.home_numbers.proofs.Parts.{home-read}
+use Rattle.tells.proofs.Turns.{and-true}
 use borrow.Author.Tests.{eq-eqb, ne-eqb}
-use Rattle.bench_words.proofs.Laid.{Laid}
-use Rattle.bench_words.proofs.Decoded.{found}
-use Rattle.bench_words.proofs.Meets.{Meets}
+use Rattle.calls.proofs.Laid.{Laid}
+use Rattle.calls.proofs.Decoded.{found}
+use Rattle.calls.proofs.Meets.{Meets}
 use Rattle.posts.proofs.Posted.{allRoom}
 use Rattle.posts.proofs.Finished.{none-told, stopped-by, no-room, finished}
 
@@ -79,11 +80,27 @@ module _ (l k m : List ℕ) (n : ℕ) (ws : List ℕ) (q : HomeMove) (f : Row) w
         row = subst (λ (z : Row). length (z .words) ≡ 8) g n8;
       }
 
--- the front message taken off first
-pub took : (l k m : List ℕ) (n at : ℕ) (q : HomeMove) (d : Row) → d ≡ rowAt l at → k ≡ over l at (pairWords (pop (pairAt l at))) → Finishes k n (applied (homeAt k) (d .words) q) m → Finishes (popped l at) n (answering l at q) m
-unfolding popped answering
-took l k m n at q d e f p =
-    subst (λ (z : List ℕ). Finishes z n (applied (homeAt z) (rowAt l at .words) q) m) f (subst (λ (z : Row). Finishes k n (applied (homeAt k) (z .words) q) m) e p)
+-- the front message taken off first, if it answers one
+pub took : (l k m : List ℕ) (n at : ℕ) (q : HomeMove) (ws : List ℕ) → ws ≡ frontWords l at → k ≡ popped l at → Finishes k n (applied (homeAt k) ws q) m → Finishes (popped l at) n (answering l at q) m
+unfolding answering
+took l k m n at q ws e f p =
+    subst (λ (z : List ℕ). Finishes z n (applied (homeAt z) (frontWords l at) q) m) f (subst (λ (z : List ℕ). Finishes k n (applied (homeAt k) z q) m) e p)
+
+pub front-none : (l : List ℕ) (at : ℕ) (ws : List ℕ) → at ≡ 0 → ws ≡ zeros → ws ≡ frontWords l at
+unfolding frontWords
+front-none l at ws e f = f ∙ rw e
+
+pub front-some : (l : List ℕ) (at : ℕ) (d : Row) → (at ≡ 0 → ⊥) → d ≡ rowAt l at → d .words ≡ frontWords l at
+unfolding frontWords
+front-some l at d h e = rw (ne-eqb at 0 h) (ap (λ (z : Row). z .words) e)
+
+pub popped-none : (l : List ℕ) (at : ℕ) → at ≡ 0 → l ≡ popped l at
+unfolding popped
+popped-none l at e = rw e
+
+pub popped-some : (l k : List ℕ) (at : ℕ) → (at ≡ 0 → ⊥) → k ≡ over l at (pairWords (pop (pairAt l at))) → k ≡ popped l at
+unfolding popped
+popped-some l k at h e = e ∙ rw (ne-eqb at 0 h)
 
 -- a step that tells no tile has room
 rooms-none : (a : Bool) (l : List ℕ) (at i j : ℕ) → rooms a l at i 0 j ≡ a

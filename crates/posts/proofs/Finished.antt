@@ -6,8 +6,8 @@ use mathlib.Core.List.{List, [], _∷_, _++_, map}
 use mathlib.Core.Option.{some, Option·map}
 use native.Mathlib.Omega.{arith}
 use lib.ListN.{length}
-use Rattle.bits.specs.Mask.{has, add}
-use Rattle.bits.proofs.MaskLaws.{has-none}
+use Rattle.masks.specs.Mask.{has, add}
+use Rattle.masks.proofs.MaskLaws.{has-none}
 use Rattle.words.specs.declared.Row.{Row}
 use Rattle.words.specs.declared.HomeBlock.{HomeBlock}
 use Rattle.words.specs.Blocks.{over, homeWords, HomeFull}
@@ -20,8 +20,8 @@ use Rattle.home_parts.specs.declared.HomeStep.{HomeStep}
 use Rattle.home_parts.specs.Numbers.{stop, tell}
 use Rattle.home_steps.specs.Rules.{HomeResult, went, spread, forwardAll, forwardTo, forwardOne, encStep, sentNumber, targets, forwardRow, told, Sends, refuses, silent, tells, files, answers}
 use Rattle.home_steps.proofs.Told.{add-small, told-targets, told-step}
-use Rattle.posts.specs.Post.{tellOne, tellAll}
-use Rattle.bench_words.proofs.Laid.{Laid, write-home, laid-encode}
+use Rattle.tells.specs.Tells.{tellOne, tellAll}
+use Rattle.calls.proofs.Laid.{Laid, write-home, laid-encode}
 use Rattle.posts.proofs.Posted.{tellTiles, sent-tiles, allRoom, not-told, told-words}
 
 -- the empty mask

@@ -8,7 +8,7 @@ use native.Mathlib.Omega.{arith}
 use native.Mathlib.Numerals.{add-one}
 use lib.ListN.{length, set, length-set}
 use lib.Seq.{getD-set-other}
-use Rattle.bits.specs.Mask.{has}
+use Rattle.masks.specs.Mask.{has}
 use Rattle.words.specs.declared.Row.{Row}
 use Rattle.words.specs.declared.Pair.{Pair}
 use Rattle.words.specs.declared.TileBlock.{TileBlock}
@@ -25,10 +25,10 @@ use Rattle.queue_words.specs.Queues.{room, push}
 use Rattle.tile_parts.specs.Steps.{headed}
 use Rattle.tile_steps.proofs.Rules.{forward-kind}
 use Rattle.home_steps.specs.Rules.{forwardOne, forwardTo, forwardAll, told}
-use Rattle.posts.specs.Post.{oneRoom, rooms, toldTile, tellOne, tellAll}
-use Rattle.posts.proofs.Places.{push-full}
-use Rattle.posts.proofs.Turns.{and-true, next-place}
-use Rattle.bench_words.proofs.Laid.{AllFull, Laid, laid-tile, write-tile}
+use Rattle.tells.specs.Tells.{oneRoom, rooms, toldTile, tellOne, tellAll}
+use Rattle.tells.proofs.Places.{push-full}
+use Rattle.tells.proofs.Turns.{and-true, next-place}
+use Rattle.calls.proofs.Laid.{AllFull, Laid, laid-tile, write-tile}
 
 -- the messages put on their queues, tile after tile
 unfoldable pub andThen : {A B : Type 0} → Option A → (A → Option B) → Option B

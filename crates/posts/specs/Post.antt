@@ -1,41 +1,20 @@
 -- A home step committed to the words, with its message put on NoC2 of every tile of a mask. That this is document 01's step is proved
 -- (proofs/Posted.antt, proofs/Commits.antt); no public contract rests on this file alone.
-use Prim.Native.Nat.{ℕ, suc, _+_}
-use mathlib.Core.Bool.{Bool, cond, true, false, _&&_}
+use Prim.Native.Nat.{ℕ}
+use mathlib.Core.Bool.{Bool, cond, true, false}
 use mathlib.Core.List.{List}
 use mathlib.Core.Path.{_≡_}
+use lib.Dec.{eqb}
 use lib.ListN.{length}
-use Rattle.bits.specs.Mask.{has}
-use Rattle.words.specs.declared.Row.{Row}
-use Rattle.words.specs.declared.TileBlock.{TileBlock}
-use Rattle.words.specs.Blocks.{rowAt, pairAt, tileAt, homeAt, pairWords, tileWords, homeWords, over, HomeFull}
-use Rattle.queue_words.specs.Queues.{room, push, pop}
-use Rattle.tile_parts.specs.Steps.{headed}
+use Rattle.words.specs.Blocks.{rowAt, pairAt, homeAt, pairWords, homeWords, over, HomeFull}
+use Rattle.codec.specs.Encode.{zeros}
+use Rattle.queue_words.specs.Queues.{pop}
 use Rattle.home_parts.specs.declared.HomeMove.{HomeMove}
 use Rattle.home_parts.specs.declared.HomeStep.{HomeStep}
 use Rattle.home_parts.specs.Numbers.{applied}
-use Rattle.bench_words.specs.declared.Answer.{Answer}
-use Rattle.bench_words.specs.Calls.{refusal}
-
--- tile i, whose block is at place `at`, has room on NoC2 or is not in the mask
-unfoldable pub oneRoom : List ℕ → ℕ → ℕ → ℕ → Bool
-oneRoom l at i to = cond (has to i) (room (tileAt l at .noc2)) true
-
--- a, and so for n tiles from tile i on
-unfoldable pub rooms : Bool → List ℕ → ℕ → ℕ → ℕ → ℕ → Bool
-rooms a l at i to ℕ.zero = a
-rooms a l at i to (suc n) = rooms (a && oneRoom l at i to) l (at + 84) (i + 1) to n
-
--- a tile with m behind what is on its NoC2
-unfoldable pub toldTile : Row → TileBlock → TileBlock
-toldTile m x = headed (x .head) (x .noc1) (push (x .noc2) m) (x .noc3)
-
-unfoldable pub tellOne : List ℕ → ℕ → ℕ → ℕ → Row → List ℕ
-tellOne l at i to m = cond (has to i) (over l at (tileWords (toldTile m (tileAt l at)))) l
-
-unfoldable pub tellAll : List ℕ → ℕ → ℕ → ℕ → Row → ℕ → List ℕ
-tellAll l at i to m ℕ.zero = l
-tellAll l at i to m (suc n) = tellAll (tellOne l at i to m) (at + 84) (i + 1) to m n
+use Rattle.answers.specs.declared.Answer.{Answer}
+use Rattle.answers.specs.Answers.{refusal}
+use Rattle.tells.specs.Tells.{rooms, tellAll}
 
 -- the answer of a home step, with value v
 abbrev pub homeAnswer : HomeStep → ℕ → Answer
@@ -45,12 +24,16 @@ homeAnswer s v = record { refusal = 0; kind = s .kind; value = v; sent = s .sent
 abbrev pub moveAnswer : HomeMove → ℕ → Answer
 moveAnswer m v = record { refusal = 0; kind = m .kind; value = v; sent = m .sent; tiles = m .to }
 
--- the words without the front message of the queue at place i; and the step of a move that answers it
+-- The words without the front message of the queue at place i, and the data of that message; place 0, where no queue is, stands for none. And
+-- the step of a move that answers it.
 unfoldable pub popped : List ℕ → ℕ → List ℕ
-popped l i = over l i (pairWords (pop (pairAt l i)))
+popped l i = cond (eqb i 0) l (over l i (pairWords (pop (pairAt l i))))
+
+unfoldable pub frontWords : List ℕ → ℕ → List ℕ
+frontWords l i = cond (eqb i 0) zeros (rowAt l i .words)
 
 unfoldable pub answering : List ℕ → ℕ → HomeMove → HomeStep
-answering l i m = applied (homeAt (popped l i)) (rowAt l i .words) m
+answering l i m = applied (homeAt (popped l i)) (frontWords l i) m
 
 -- m is k with the block of the home step s, and its message on its tiles' queues
 pub record Finishes (k : List ℕ) (n : ℕ) (s : HomeStep) (m : List ℕ) : Type 0 where

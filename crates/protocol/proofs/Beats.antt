@@ -1,6 +1,6 @@
 -- 01's beats P1 to P9 hold of the rules: the run is computed.
 use mathlib.Core.Path.{refl}
-use Rattle.bits.specs.Mask.{has, add, del}
+use Rattle.masks.specs.Mask.{has, add, del}
 use Rattle.protocol.specs.Tile.{loadAt, storeAt, evictAt, fill, receive, received, deliverTo}
 use Rattle.protocol.specs.Home.{range, among, members, grantShared, grantOwner, ownRight, askedFor, askOwner, invalidateTo, invalidate, leave, serve, writeBack, wordsAfter, dirtyAfter, loadAckS, loadAckI, storeAck, cleared, invAck, acknowledged, evictLine}
 use Rattle.protocol.specs.Bench.{fresh, push, front, rest, onTile1, onTile2, onTile3, sendOne, sendTo, send, sent, posted, kindOf, settle, atTile, atWord, circle, firstOf, eligible, arbitrate, noc1, popNoc1, served, take, takeFrom, takingOn, noc3, popNoc3, writtenBack, moved, accept, fromTileOn, memoryServes, memoryStepOn, acceptAck, memoryAckOn, homeEvictionOn, step}

@@ -4,7 +4,7 @@ use mathlib.Core.Path.{_≡_, refl}
 use mathlib.Core.Bool.{cond, true, false}
 use mathlib.Core.List.{List, [], _∷_}
 use mathlib.Core.Option.{some, none}
-use Rattle.bits.specs.Mask.{has, add, del}
+use Rattle.masks.specs.Mask.{has, add, del}
 use Rattle.protocol.specs.Parts.{Tile, tileOf, invalid, nothing, empty, one, loadReq, awaitingAcks, clearForEviction, Bench, benchOf, load, taking}
 use Rattle.protocol.specs.Tile.{loadAt}
 use Rattle.protocol.specs.Home.{move, range, invAck, serve}

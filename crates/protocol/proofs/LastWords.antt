@@ -2,7 +2,7 @@
 use Prim.Native.Nat.{ℕ}
 use mathlib.Core.Path.{_≡_, refl}
 use mathlib.Core.List.{List, [], _∷_}
-use Rattle.bits.specs.Mask.{has, add, del}
+use Rattle.masks.specs.Mask.{has, add, del}
 use Rattle.protocol.specs.Tile.{loadAt, storeAt, evictAt, fill, receive, received, deliverTo}
 use Rattle.protocol.specs.Home.{range, among, members, grantShared, grantOwner, ownRight, askedFor, askOwner, invalidateTo, invalidate, leave, serve, writeBack, wordsAfter, dirtyAfter, loadAckS, loadAckI, storeAck, cleared, invAck, acknowledged, evictLine}
 use Rattle.protocol.specs.Parts.{Call, load, store, evict, taking, toTile, fromTile, memoryStep, memoryAck, homeEviction}

@@ -6,7 +6,7 @@ use mathlib.Core.List.{List, [], _∷_, _++_}
 use mathlib.Core.Option.{Option, some, none, Option·map}
 use lib.Dec.{ltb}
 use lib.ListN.{length, getD, set, replicate}
-use Rattle.bits.specs.Mask.{has, add, del}
+use Rattle.masks.specs.Mask.{has, add, del}
 use Rattle.protocol.specs.Parts.{Words, Queue, empty, one, two, Access, reading, writing, Cache, invalid, Waiting, nothing, Request, loadReq, storeReq, wbGuardReq, Forward, Reply, wbReq, loadFwdAckS, loadFwdAckI, storeFwdAck, invFwdAck, ToMemory, loadMem, storeMem, FromMemory, loadMemAck, storeMemAck, Message, onNoc1, onNoc2, onNoc3, toMemory, fromMemory, Tile, tileOf, Line, absent, present, Home, idle, awaitingLoad, awaitingOwner, awaitingAcks, awaitingStore, Bench, benchOf, Call, load, store, evict, taking, toTile, fromTile, memoryStep, memoryAck, homeEviction, Result, refused, accepted}
 use Rattle.protocol.specs.Tile.{loadAt, storeAt, evictAt, deliverTo}
 use Rattle.protocol.specs.Home.{Move, move, range, serve, writeBack, loadAckS, loadAckI, storeAck, invAck, acknowledged, evictLine}

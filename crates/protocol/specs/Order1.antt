@@ -5,7 +5,7 @@ use mathlib.Core.Bool.{Bool, cond, true, false, _&&_, _||_}
 use mathlib.Core.List.{List, [], _∷_, _++_}
 use lib.Dec.{eqb}
 use lib.ListN.{length, getD}
-use Rattle.bits.specs.Mask.{has}
+use Rattle.masks.specs.Mask.{has}
 use Rattle.protocol.specs.Parts.{Words, shared, exclusive, modified, invalid, valid, Waiting, nothing, forLoad, forStore, Tile, tileOf, Directory, uncached, sharedBy, ownedBy, Line, absent, present, Home, idle, awaitingLoad, awaitingOwner, awaitingAcks, awaitingStore, Bench, benchOf, Call, load, store, evict, taking, toTile, fromTile, memoryStep, memoryAck, homeEviction}
 use Rattle.protocol.specs.Bench.{fresh, tileAt, step}
 use Rattle.protocol.specs.Demand3.{runs, Answer, answer, answered, hasKind, Event, event, history, tilesOf}

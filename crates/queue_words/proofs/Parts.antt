@@ -9,7 +9,7 @@ use borrow.Author.Tests.{eq-eqb, ne-eqb}
 use Rattle.words.specs.declared.Row.{Row}
 use Rattle.words.specs.declared.Pair.{Pair}
 use Rattle.words.specs.Blocks.{over, rowAt, pairAt, rowWords, pairWords, PairFull}
-use Rattle.words.proofs.Over.{length-over, over-over, row-words, eight, then-over, write-pair}
+use Rattle.words.proofs.Over.{length-over, over-over, row-words, write-pair}
 use Rattle.words.proofs.Reading.{row-full}
 use Rattle.codec.specs.Encode.{noRow}
 use Rattle.queue_words.specs.Queues.{push, pop}
@@ -62,10 +62,6 @@ set-part l i n w v b h =
     let e : take n (drop i m) ≡ set (take n (drop i l)) w v = ap (take n) (drop-set-add i l w v) ∙ take-set-lt n (drop i l) w v b in
     sym (over-read m i n (omega arith)) ∙ ap (over m i) e ∙ over-same l m i n (set (take n (drop i l)) w v)
     (simp (length-set, length-take, length-drop) (omega arith)) (take-set-le i l (i + w) v (omega arith)) (drop-set-lt (i + n) l (i + w) v (omega arith))
-
-pub write-eight : (l l1 l2 : List ℕ) (i : ℕ) (ws : List ℕ) → i + 8 ≤ length l → length ws ≡ 8 →
-    l1 ≡ over l i (getD ws 0 0 ∷ getD ws 1 0 ∷ getD ws 2 0 ∷ getD ws 3 0 ∷ []) → l2 ≡ over l1 (i + 4) (getD ws 4 0 ∷ getD ws 5 0 ∷ getD ws 6 0 ∷ getD ws 7 0 ∷ []) → l2 ≡ over l i ws
-write-eight l l1 l2 i ws h n e1 e2 = then-over l l1 l2 i (i + 4) _ _ (omega arith) refl e1 e2 ∙ ap (over l i) (sym (eight ws n))
 
 -- a queue with a message put, and with its front taken
 pub push-first : (l l1 l2 : List ℕ) (i : ℕ) (m z : Row) → i + 24 ≤ length l → getD l i 0 ≡ 0 → length (m .words) ≡ 8 → l1 ≡ over l i (rowWords m) → z ≡ noRow →

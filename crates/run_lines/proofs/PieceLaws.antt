@@ -9,8 +9,8 @@ use lib.Dec.{ltb, leb}
 use lib.ListN.{length, length-append}
 use Rattle.lists.specs.Over.{over, Placed, Put}
 use Rattle.lists.proofs.OverLaws.{over-nil, over-over}
-use Rattle.bench_words.specs.Calls.{startOn, wordsStarted}
-use Rattle.bench.specs.Runs.{afterCall}
+use Rattle.calls.specs.Calls.{startOn, wordsStarted}
+use Rattle.theorems.specs.Runs.{afterCall}
 use Rattle.lines.specs.Lines.{benchLine, endLine, refusedLine}
 use Rattle.listing.proofs.BenchLaws.{bench-length}
 use Rattle.job_check.specs.declared.Checked.{Checked}
@@ -19,9 +19,9 @@ use Rattle.job_bytes.specs.Bytes.{nextAt}
 use Rattle.job_check.specs.Check.{checkJob}
 use Rattle.job_format.specs.Job.{headerEnd, tilesOf, addressOf, memoryOf, callAt, jobCallAt, callOf}
 use Rattle.job_format.proofs.Calls.{call-in, next-in}
-use Rattle.jobs.specs.Run.{benchCall}
+use Rattle.job_rules.specs.Run.{benchCall}
 use Rattle.answer_lines.specs.Pieces.{AllPlaced}
-use Rattle.job_lines.specs.Listing.{callLines}
+use Rattle.job_rules.specs.Listing.{callLines}
 use Rattle.whole_listing.proofs.Room.{decimal-le, answer-le, room}
 use Rattle.run_parts.specs.declared.Run.{Run}
 use Rattle.run_parts.proofs.LineLaws.{placed-at}

@@ -6,14 +6,14 @@ use mathlib.Core.List.{List, [], _++_}
 use lib.Dec.{eqb, ltb, leb}
 use lib.ListN.{length}
 use Rattle.lists.specs.Over.{over}
-use Rattle.bench_words.specs.Calls.{startOn, wordsStarted}
-use Rattle.bench.specs.Runs.{afterCall}
+use Rattle.calls.specs.Calls.{startOn, wordsStarted}
+use Rattle.theorems.specs.Runs.{afterCall}
 use Rattle.lines.specs.Lines.{benchLine, endLine, refusedLine}
 use Rattle.job_bytes.specs.Bytes.{nextAt}
 use Rattle.job_check.specs.Check.{checkJob}
 use Rattle.job_format.specs.Job.{headerEnd, tilesOf, addressOf, memoryOf, callAt}
-use Rattle.jobs.specs.Run.{benchCall}
-use Rattle.job_lines.specs.Listing.{callLines}
+use Rattle.job_rules.specs.Run.{benchCall}
+use Rattle.job_rules.specs.Listing.{callLines}
 use Rattle.whole_listing.specs.Whole.{bytesOf}
 use Rattle.run_parts.specs.declared.Run.{Run}
 

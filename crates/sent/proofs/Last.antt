@@ -8,8 +8,8 @@ use native.Mathlib.Omega.{arith}
 use lib.Dec.{eqb, leb}
 use lib.ListN.{length, getD, set, length-set}
 use lib.Seq.{getD-set-same, getD-set-other}
-use Rattle.bits.specs.Mask.{add}
-use Rattle.bits.proofs.MaskLaws.{has-add}
+use Rattle.masks.specs.Mask.{add}
+use Rattle.masks.proofs.MaskLaws.{has-add}
 use Rattle.protocol.specs.Parts.{Words, Queue, empty, one, two, Request, Forward, Reply, ToMemory, FromMemory, Message, onNoc1, onNoc2, onNoc3, toMemory, fromMemory, Tile, tileOf, Home, Bench, benchOf, Result, refused, accepted}
 use Rattle.protocol.specs.Home.{members}
 use Rattle.protocol.specs.Bench.{freshTile, tileAt, push, onTile1, onTile2, onTile3, sendOne, sendTo, send, sent, posted, noc1, noc3}

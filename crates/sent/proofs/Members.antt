@@ -11,7 +11,7 @@ use lib.ListN.{length, getD}
 use lib.Pow.{shr-shr, shr-lt}
 use lib.Count.{ones, ones-step, ones-le}
 use borrow.Author.Tests.{lt-ltb, ne-eqb, eqb-true}
-use Rattle.bits.specs.Mask.{has}
+use Rattle.masks.specs.Mask.{has}
 use Rattle.find_first.specs.Next.{next}
 use Rattle.find_first.proofs.NextLaws.{skip-to-next}
 use Rattle.protocol.specs.Home.{range, among, members}

@@ -6,8 +6,8 @@ use mathlib.Core.List.{List, [], _∷_}
 use native.Mathlib.Omega.{arith}
 use lib.Dec.{eqb}
 use borrow.Author.Tests.{eqb-true, eqb-false}
-use Rattle.bits.specs.Mask.{has, add}
-use Rattle.bits.proofs.MaskLaws.{has-add, has-add-other, has-none}
+use Rattle.masks.specs.Mask.{has, add}
+use Rattle.masks.proofs.MaskLaws.{has-add, has-add-other, has-none}
 use Rattle.protocol.specs.Home.{range, among, members}
 
 -- from i on, below n, each above the one before it

@@ -10,7 +10,7 @@ use lib.Dec.{eqb}
 use lib.ListN.{length, getD, drop}
 use Rattle.words.specs.declared.Row.{Row}
 use Rattle.words.specs.declared.HomeBlock.{HomeBlock}
-use Rattle.words.specs.Blocks.{homeAt}
+use Rattle.words.specs.Blocks.{need, homeAt}
 use Rattle.protocol.specs.Parts.{Message, Access, reading, writing, request, eviction, clearForStore, clearForEviction, Directory, uncached, sharedBy, ownedBy, Line, absent, present, Home, idle, awaitingLoad, awaitingOwner, awaitingAcks, awaitingStore, Bench, benchOf, Call, Result, refused, accepted}
 use Rattle.protocol.specs.Bench.{step}
 use Rattle.codec.specs.Encode.{encHome}
@@ -19,9 +19,9 @@ use Rattle.codec.specs.Sent.{sentOn, sentTo}
 use Rattle.codec.proofs.Canonical.{home-canonical}
 use Rattle.sent.specs.Places.{placesOf, lastAt, placeOf, There, OwnerIn, HomeNames, NamesTiles}
 use Rattle.sent.proofs.Sends.{sent-there}
-use Rattle.bench_words.specs.Calls.{need, wellFormed, stepOn, answerOf}
-use Rattle.bench_words.proofs.Laid.{Laid}
-use Rattle.bench_words.proofs.Decoded.{Found, found, count, laid-out}
+use Rattle.calls.specs.Calls.{wellFormed, stepOn, answerOf}
+use Rattle.calls.proofs.Laid.{Laid}
+use Rattle.calls.proofs.Decoded.{Found, found, count, laid-out}
 use Rattle.messages.specs.Rows.{messageOf, sentOf, noSent}
 use Rattle.sent_messages.proofs.Read.{read-all}
 

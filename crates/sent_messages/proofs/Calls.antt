@@ -12,8 +12,9 @@ use Rattle.codec.specs.Encode.{encode}
 use Rattle.codec.specs.Decode.{decoded}
 use Rattle.codec.specs.Range.{InRange}
 use Rattle.codec.proofs.RangeKept.{after-in}
-use Rattle.bench_words.specs.Calls.{need, wellFormed, stepOn, answerOf, wordsAfter}
-use Rattle.bench.proofs.RoundTrip.{encodes, decoded-in}
+use Rattle.calls.specs.Calls.{wellFormed, stepOn, answerOf, wordsAfter}
+use Rattle.words.specs.Blocks.{need}
+use Rattle.theorems.proofs.RoundTrip.{encodes, decoded-in}
 use Rattle.sent_messages.proofs.Answers.{Holds, Gives, decoded-holds, call-gives}
 
 stepped : (l : List ℕ) (c : Call) (k v : ℕ) (b : Bench) (ms : List Message) → stepOn l c ≡ accepted k v b ms → (wellFormed l ≡ true) × (step c (decoded l) ≡ accepted k v b ms)

@@ -20,7 +20,7 @@ use Rattle.codec.specs.Encode.{noRow, encRequest, encForward, encReply, encToMe
 use Rattle.codec.specs.Sent.{sentOn, sentTo}
 use Rattle.sent.specs.declared.Place.{Place}
 use Rattle.sent.specs.Places.{place, nowhere, placesOf, lastOf, noc2, lastAt, placeOf, There, NamesTiles}
-use Rattle.bench_words.proofs.Laid.{Laid, laid-length, laid-home, laid-tile}
+use Rattle.calls.proofs.Laid.{Laid, laid-length, laid-home, laid-tile}
 use Rattle.messages.specs.declared.Sent.{Sent}
 use Rattle.messages.specs.Rows.{lastRow, rowFrom, ofTile, rowIn, sentAt, messageOf, sentOf, noSent}
 

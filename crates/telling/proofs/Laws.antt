@@ -4,7 +4,7 @@ use mathlib.Core.Path.{_≡_, ap, _∙_}
 use mathlib.Core.List.{List, _++_}
 use lib.ListN.{length, drop}
 use borrow.Author.Tests.{le-leb, lt-leb}
-use Rattle.bench_words.specs.declared.Answer.{Answer}
+use Rattle.answers.specs.declared.Answer.{Answer}
 use Rattle.telling.specs.Told.{told, answerWords}
 
 pub told-fits : (l vs : List ℕ) → length vs ≤ length l → vs ++ drop (length vs) l ≡ told l vs

@@ -4,7 +4,7 @@ ghost use Prim.Native.Nat.{_≤_};
 ghost use mathlib.Core.List.{_∷_, [], _++_};
 ghost use lib.ListN.{length, drop};
 ghost use Rattle.telling.specs.Told.{told, answerWords, writtenWords, checkedWords};
-use bench_words::Answer;
+use answers::Answer;
 use flit_writing::Written;
 use job_format::Checked;
 

@@ -9,12 +9,12 @@ use lib.Dec.{eqb, ltb}
 use lib.ListN.{length, getD, set, drop, length-set}
 use lib.Seq.{getD-set-same, set-set}
 use borrow.Author.Tests.{lt-ltb, le-ltb, eq-eqb}
-use Rattle.bits.specs.Mask.{add, add64}
-use Rattle.bits.proofs.MaskLaws.{has-add}
+use Rattle.masks.specs.Mask.{add, add64}
+use Rattle.masks.proofs.MaskLaws.{has-add}
 use Rattle.words.specs.declared.Row.{Row}
 use Rattle.words.specs.declared.TileBlock.{TileBlock}
 use Rattle.words.specs.Blocks as blocks
-use Rattle.words.specs.Blocks.{over, tileWords, homeAt, TileFull}
+use Rattle.words.specs.Blocks.{need, over, tileWords, homeAt, TileFull}
 use Rattle.protocol.specs.Parts.{Words, Queue, empty, one, two, shared, exclusive, modified, Cache, invalid, valid, Waiting, nothing, forLoad, forStore, Request, Forward, Reply, Message, onNoc1, onNoc2, onNoc3, toMemory, fromMemory, ToMemory, FromMemory, Tile, tileOf, Home, Bench, benchOf, load, store, evict, toTile, Result, refused, accepted}
 use Rattle.protocol.specs.Tile as rules
 use Rattle.protocol.specs.Bench as bench
@@ -28,11 +28,13 @@ use Rattle.tile_parts.specs.InPlace.{Stepped}
 use Rattle.tile_parts.proofs.InPlace.{put-same}
 use Rattle.tile_parts.specs.Steps.{loadOn, storeOn, evictOn, deliverOn, tileStepOn}
 use Rattle.tile_steps.proofs.Rules.{ownOne, ownTo, ownAll, encAfter, encStep, load-rule, store-rule, evict-rule, deliver-rule}
-use Rattle.bench_words.specs.declared.Answer.{Answer}
-use Rattle.bench_words.specs.Calls.{need, wellFormed, stepOn, answerOf, wordsAfter, refusal, tileCall}
-use Rattle.bench_words.proofs.Laid.{Laid, laid-tile, write-tile}
-use Rattle.bench_words.proofs.Meets.{Meets}
-use Rattle.bench_words.proofs.Decoded.{found, count, laid-out, encoded}
+use Rattle.answers.specs.declared.Answer.{Answer}
+use Rattle.calls.specs.Calls.{wellFormed, stepOn, answerOf, wordsAfter}
+use Rattle.call_tags.specs.Tags.{tileCall}
+use Rattle.answers.specs.Answers.{refusal}
+use Rattle.calls.proofs.Laid.{Laid, laid-tile, write-tile}
+use Rattle.calls.proofs.Meets.{Meets}
+use Rattle.calls.proofs.Decoded.{found, count, laid-out, encoded}
 
 -- a rule's messages are on the tile's own queues, and its refusal is no 0
 abbrev Own : ℕ → List Message → Type 0
@@ -92,11 +94,11 @@ word-local t w r h = go (ltb w 8)
 
 -- the four calls by number
 unfoldable ruleOf : ℕ → ℕ → ℕ → ℕ → Tile → Result Tile
-ruleOf c t w v x = cond (eqb c 0) (atWord w (rules.loadAt t w x)) (cond (eqb c 1) (atWord w (rules.storeAt t w v x)) (cond (eqb c 2) (rules.evictAt t x) (rules.deliverTo t x)))
+ruleOf c t w v x = cond (eqb c 16) (atWord w (rules.loadAt t w x)) (cond (eqb c 17) (atWord w (rules.storeAt t w v x)) (cond (eqb c 18) (rules.evictAt t x) (rules.deliverTo t x)))
 
 rule-numbers : (c t w v : ℕ) (x : Tile) → tileStepOn c w v (encTile x) ≡ encStep (encTile x) (ruleOf c t w v x)
 unfolding tileStepOn ruleOf
-rule-numbers c t w v x = go (eqb c 0) (eqb c 1) (eqb c 2)
+rule-numbers c t w v x = go (eqb c 16) (eqb c 17) (eqb c 18)
   where
     go : (a b d : Bool) → cond a (loadOn w (encTile x)) (cond b (storeOn w v (encTile x)) (cond d (evictOn (encTile x)) (deliverOn (encTile x))))
         ≡ encStep (encTile x) (cond a (atWord w (rules.loadAt t w x)) (cond b (atWord w (rules.storeAt t w v x)) (cond d (rules.evictAt t x) (rules.deliverTo t x))))
@@ -107,7 +109,7 @@ rule-numbers c t w v x = go (eqb c 0) (eqb c 1) (eqb c 2)
 
 rule-local : (c t w v : ℕ) (x : Tile) → Local t (ruleOf c t w v x)
 unfolding ruleOf
-rule-local c t w v x = go (eqb c 0) (eqb c 1) (eqb c 2)
+rule-local c t w v x = go (eqb c 16) (eqb c 17) (eqb c 18)
   where
     go : (a b d : Bool) → Local t (cond a (atWord w (rules.loadAt t w x)) (cond b (atWord w (rules.storeAt t w v x)) (cond d (rules.evictAt t x) (rules.deliverTo t x))))
     go true b d = word-local t w (rules.loadAt t w x) (load-local t w x)
@@ -117,7 +119,7 @@ rule-local c t w v x = go (eqb c 0) (eqb c 1) (eqb c 2)
 
 rule-step : (c t w v : ℕ) (b : Bench) → step (tileCall c t w v) b ≡ atTile t (ruleOf c t w v) b
 unfolding step tileCall ruleOf
-rule-step c t w v b = go (eqb c 0) (eqb c 1) (eqb c 2)
+rule-step c t w v b = go (eqb c 16) (eqb c 17) (eqb c 18)
   where
     go : (a d e : Bool) → step (cond a (load t w) (cond d (store t w v) (cond e (evict t) (toTile t)))) b
         ≡ atTile t (λ (x : Tile). cond a (atWord w (rules.loadAt t w x)) (cond d (atWord w (rules.storeAt t w v x)) (cond e (rules.evictAt t x) (rules.deliverTo t x)))) b

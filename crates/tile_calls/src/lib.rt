@@ -1,10 +1,11 @@
 // The calls at one tile: load, store, evict, and delivery to it.
 ghost use mathlib.Core.Path.{_≡_};
 ghost use Rattle.protocol.specs.Parts.{load, store, evict, toTile};
-ghost use Rattle.bench_words.specs.Calls.{stepOn, answerOf, wordsAfter, tileCall};
-use bench_words::Answer;
+ghost use Rattle.calls.specs.Calls.{stepOn, answerOf, wordsAfter};
+ghost use Rattle.call_tags.specs.Tags.{tileCall};
+use answers::Answer;
 
-// One of the calls at a tile: 0 load, 1 store, 2 evict, else delivery to the tile.
+// One of the calls at a tile: 16 load, 17 store, 18 evict, else delivery to the tile.
 pub fn at_tile(w: &mut [u64], c: u64, t: u64, word: u64, value: u64) -> Answer
     ensures answer { λ r. ⌜ r ≡ answerOf (stepOn (now (w .entry)) (tileCall c t word value)) ⌝ }
     ensures words { λ _. ⌜ now (w .exit) ≡ wordsAfter (now (w .entry)) (stepOn (now (w .entry)) (tileCall c t word value)) ⌝ }
@@ -16,15 +17,15 @@ pub fn at_tile(w: &mut [u64], c: u64, t: u64, word: u64, value: u64) -> Answer
             let at = 74 + 84 * (t as usize);
             let s = tile_steps::step_at(w, at, c, word, value);
             if s.refusal == 0 {
-                bench_words::accepted(s.kind, s.value, s.sent, t)
+                answers::accepted(s.kind, s.value, s.sent, t)
             } else {
-                bench_words::refused(s.refusal)
+                answers::refused(s.refusal)
             }
         } else {
-            bench_words::refused(2)
+            answers::refused(2)
         }
     } else {
-        bench_words::refused(1)
+        answers::refused(1)
     }
 }
 
@@ -32,21 +33,21 @@ pub fn load(w: &mut [u64], t: u64, word: u64) -> Answer
     ensures answer { λ r. ⌜ r ≡ answerOf (stepOn (now (w .entry)) (load t word)) ⌝ }
     ensures words { λ _. ⌜ now (w .exit) ≡ wordsAfter (now (w .entry)) (stepOn (now (w .entry)) (load t word)) ⌝ }
 {
-    at_tile(w, 0, t, word, 0)
+    at_tile(w, 16, t, word, 0)
 }
 
 pub fn store(w: &mut [u64], t: u64, word: u64, value: u64) -> Answer
     ensures answer { λ r. ⌜ r ≡ answerOf (stepOn (now (w .entry)) (store t word value)) ⌝ }
     ensures words { λ _. ⌜ now (w .exit) ≡ wordsAfter (now (w .entry)) (stepOn (now (w .entry)) (store t word value)) ⌝ }
 {
-    at_tile(w, 1, t, word, value)
+    at_tile(w, 17, t, word, value)
 }
 
 pub fn evict(w: &mut [u64], t: u64) -> Answer
     ensures answer { λ r. ⌜ r ≡ answerOf (stepOn (now (w .entry)) (evict t)) ⌝ }
     ensures words { λ _. ⌜ now (w .exit) ≡ wordsAfter (now (w .entry)) (stepOn (now (w .entry)) (evict t)) ⌝ }
 {
-    at_tile(w, 2, t, 0, 0)
+    at_tile(w, 18, t, 0, 0)
 }
 
 // Delivery to tile t, of the front message of its NoC2 queue.
@@ -54,5 +55,5 @@ pub fn to_tile(w: &mut [u64], t: u64) -> Answer
     ensures answer { λ r. ⌜ r ≡ answerOf (stepOn (now (w .entry)) (toTile t)) ⌝ }
     ensures words { λ _. ⌜ now (w .exit) ≡ wordsAfter (now (w .entry)) (stepOn (now (w .entry)) (toTile t)) ⌝ }
 {
-    at_tile(w, 3, t, 0, 0)
+    at_tile(w, 20, t, 0, 0)
 }

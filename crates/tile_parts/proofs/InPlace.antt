@@ -3,6 +3,7 @@ use Prim.Native.Nat.{ℕ, _+_, _≤_, _<_}
 use mathlib.Core.Path.{_≡_, refl, ap, sym, _∙_, subst}
 use mathlib.Core.List.{List, [], _∷_, _++_, append-assoc}
 use native.Mathlib.Omega.{arith}
+use native.Mathlib.Nat.{add-zero}
 use lib.ListN.{length, getD, set, take, drop, length-set}
 use lib.Seq.{length-take-le, getD-take, getD-drop}
 use Rattle.words.specs.declared.Row.{Row}
@@ -16,7 +17,7 @@ use Rattle.tile_parts.specs.declared.TileStep.{TileStep}
 use Rattle.queue_words.proofs.Parts.{over-read, kept-behind, kept-before, front, set-part}
 use Rattle.tile_parts.specs.Steps.{refuse, headed, answers}
 use Rattle.tile_parts.specs.declared.Told.{Told}
-use Rattle.tile_parts.specs.InPlace.{Put, Stepped, numbered, lined, worded}
+use Rattle.tile_parts.specs.InPlace.{Put, Stepped, numbered, stated, lined, worded}
 
 -- a block written over another at the same place
 pub put-put : (l m n : List ℕ) (i : ℕ) (x y : TileBlock) → i + 84 ≤ length l → Put l i x m → Put m i y n → Put l i y n
@@ -68,6 +69,12 @@ module _ (l m : List ℕ) (i : ℕ) (h : i + 84 ≤ length l) where
             ∙ ap (λ (r : List ℕ). over l i (a ∷ b ∷ c ∷ d ∷ r)) (sym (join l (i + 4) (i + 12) 8 72 (omega arith) refl rest1));
         full = record { head-full = row-full l i (omega arith); noc1-full = pair-full l (i + 12) (omega arith); noc2-full = pair-full l (i + 36) (omega arith); noc3-full = pair-full l (i + 60) (omega arith) };
       }
+
+  pub put-state : (s : ℕ) → m ≡ set l i s → Put l i (stated s x) m
+  unfolding tileAt rowAt
+  put-state s e =
+      put-numbers s (getD l (i + 1) 0) (getD l (i + 2) 0) (getD l (i + 3) 0)
+      (e ∙ ap (λ (j : ℕ). set l j s) (sym (add-zero i)) ∙ set-part l i 4 0 s (omega arith) (omega arith) ∙ ap (λ (r : List ℕ). over l i (set r 0 s)) (sym (front l i (omega arith))))
 
   pub put-line : (ws : List ℕ) → length ws ≡ 8 → m ≡ over l (i + 4) ws → Put l i (lined ws x) m
   unfolding tileAt tileWords rowWords rowAt

@@ -33,9 +33,12 @@ Puts l i f m = Put l i (f (tileAt l i)) m
 abbrev pub Steps : List ℕ → ℕ → (TileBlock → TileStep) → Told → List ℕ → Type 0
 Steps l i f r m = Stepped l i (f (tileAt l i)) r m
 
--- the changes that the steps are made of: the head's numbers, its words, one of them, and a message put or taken
+-- the changes that the steps are made of: the head's numbers, its state alone, its words, one of them, and a message put or taken
 abbrev pub numbered : ℕ → ℕ → ℕ → ℕ → TileBlock → TileBlock
 numbered a b c d x = headed (row a b c d (x .head .words)) (x .noc1) (x .noc2) (x .noc3)
+
+abbrev pub stated : ℕ → TileBlock → TileBlock
+stated s x = numbered s (x .head .n1) (x .head .n2) (x .head .n3) x
 
 abbrev pub lined : List ℕ → TileBlock → TileBlock
 lined ws x = headed (row (x .head .n0) (x .head .n1) (x .head .n2) (x .head .n3) ws) (x .noc1) (x .noc2) (x .noc3)
@@ -60,13 +63,13 @@ abbrev pub stored : ℕ → ℕ → TileBlock → TileBlock
 stored w v x = worded w v (numbered 3 0 0 0 x)
 
 abbrev pub emptied : TileBlock → TileBlock
-emptied x = lined zeros (numbered 0 (x .head .n1) (x .head .n2) (x .head .n3) x)
+emptied x = lined zeros (stated 0 x)
 
 abbrev pub writtenBack : TileBlock → TileBlock
 writtenBack x = emptied (replied (row 12 0 0 0 (x .head .words)) (requested (row 13 0 0 0 zeros) x))
 
 abbrev pub answered : ℕ → List ℕ → Row → TileBlock → TileBlock
-answered s ws m x = replied m (received (lined ws (numbered s (x .head .n1) (x .head .n2) (x .head .n3) x)))
+answered s ws m x = replied m (received (lined ws (stated s x)))
 
 abbrev pub loadFilled : ℕ → TileBlock → TileBlock
 loadFilled s x = received (lined (x .noc2 .a .words) (numbered s 0 0 0 x))

@@ -96,6 +96,6 @@ deliverOn x =
     (cond (ltb (x .noc2 .a .n0) 16) (onDataAck (x .noc2 .a .n2) (x .noc2 .a .words) x)
     (cond (ltb (x .noc2 .a .n0) 19) (onForward (x .noc2 .a .n0) (x .head .n0) x) (onDataAck (x .noc2 .a .n2) (x .noc2 .a .words) x)))
 
--- the four by number: 0 load, 1 store, 2 evict, else delivery to the tile
+-- the four by tag: 16 load, 17 store, 18 evict, else delivery to the tile
 unfoldable pub tileStepOn : ℕ → ℕ → ℕ → TileBlock → TileStep
-tileStepOn c w v x = cond (eqb c 0) (loadOn w x) (cond (eqb c 1) (storeOn w v x) (cond (eqb c 2) (evictOn x) (deliverOn x)))
+tileStepOn c w v x = cond (eqb c 16) (loadOn w x) (cond (eqb c 17) (storeOn w v x) (cond (eqb c 18) (evictOn x) (deliverOn x)))

@@ -3,9 +3,7 @@
 ghost use mathlib.Core.Path.{_≡_};
 ghost use Prim.Native.Nat.{_+_, _≤_, _<_};
 ghost use lib.ListN.{length};
-ghost use Rattle.tile_parts.specs.Steps.{headed};
-ghost use Rattle.tile_parts.specs.InPlace.{Puts, numbered, lined, worded, requested, received, replied};
-use words::Pair;
+ghost use Rattle.tile_parts.specs.InPlace.{Puts, numbered, stated, lined, worded, requested, received, replied};
 use words::Row;
 use words::TileBlock;
 
@@ -24,17 +22,6 @@ pub struct Told {
     pub kind: u64,
     pub value: u64,
     pub sent: u64,
-}
-
-pub fn headed(h: Row, p: Pair, q: Pair, s: Pair) -> TileBlock
-    ensures { λ r. ⌜ r ≡ headed h p q s ⌝ }
-{
-    TileBlock {
-        head: h,
-        noc1: p,
-        noc2: q,
-        noc3: s,
-    }
 }
 
 pub fn refuse(n: u64) -> Told
@@ -63,14 +50,21 @@ pub fn numbers_at(w: &mut [u64], at: usize, a: u64, b: u64, c: u64, d: u64)
     requires { ⌜ at + 84 ≤ length (now w) ⌝ }
     ensures { λ _. ⌜ Puts (now (w .entry)) at (numbered a b c d) (now (w .exit)) ⌝ }
 {
-    queue_words::four(w, at, a, b, c, d);
+    words::write_four(w, at, a, b, c, d);
+}
+
+pub fn state_at(w: &mut [u64], at: usize, s: u64)
+    requires { ⌜ at + 84 ≤ length (now w) ⌝ }
+    ensures { λ _. ⌜ Puts (now (w .entry)) at (stated s) (now (w .exit)) ⌝ }
+{
+    w[at] = s;
 }
 
 pub fn line_at(w: &mut [u64], at: usize, d: [u64; 8])
     requires { ⌜ at + 84 ≤ length (now w) ⌝ }
     ensures { λ _. ⌜ Puts (now (w .entry)) at (lined d) (now (w .exit)) ⌝ }
 {
-    queue_words::eight(w, at + 4, d);
+    words::write_eight(w, at + 4, d);
 }
 
 pub fn word_at(w: &mut [u64], at: usize, word: u64, v: u64)

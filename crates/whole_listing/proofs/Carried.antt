@@ -16,8 +16,8 @@ use Rattle.codec.specs.Range as range
 use Rattle.codec.specs.Range.{QueueIn, DataIn, TileIn, TilesIn, HomeIn, LineIn, BenchIn, InRange}
 use Rattle.codec.proofs.RangeKept.{tile-in, after-in}
 use Rattle.codec.specs.Decode.{decoded}
-use Rattle.bench_words.specs.Calls.{wellFormed, stepOn}
-use Rattle.bench.proofs.RoundTrip.{well-formed-iff}
+use Rattle.calls.specs.Calls.{wellFormed, stepOn}
+use Rattle.theorems.proofs.RoundTrip.{well-formed-iff}
 use Rattle.sent.specs.Places.{lastOf, noc2, lastAt, placeOf, There, OwnerIn, HomeNames, NamesTiles}
 use Rattle.sent.proofs.Sends.{sent-there}
 use Rattle.messages.specs.declared.Sent.{Sent}

@@ -11,7 +11,7 @@ use Rattle.lists.specs.Over.{bufferAfter, placeAfter, Placed, Put}
 use Rattle.lists.proofs.OverLaws.{placed-length}
 use Rattle.protocol.specs.Home.{members}
 use Rattle.coherence.proofs.Falls.{members-length}
-use Rattle.bench_words.specs.declared.Answer.{Answer}
+use Rattle.answers.specs.declared.Answer.{Answer}
 use Rattle.sent.specs.declared.Place.{Place}
 use Rattle.sent.specs.Places.{place, each, both, placesOf}
 use Rattle.messages.specs.declared.Sent.{Sent}

@@ -11,10 +11,11 @@ use Rattle.protocol.specs.Demand3.{after, runs}
 use Rattle.codec.specs.Encode.{encode}
 use Rattle.codec.specs.Range.{InRange}
 use Rattle.codec.proofs.RangeKept.{after-in, fresh-in}
-use Rattle.bench_words.specs.Calls.{need, stepOn, answerOf, wordsAfter}
-use Rattle.bench.specs.Runs.{startedWords, answerTo, afterCall, callWords}
-use Rattle.bench.proofs.RoundTrip.{encodes}
-use Rattle.bench.proofs.Demand3.{calls-are-steps}
+use Rattle.calls.specs.Calls.{stepOn, answerOf, wordsAfter}
+use Rattle.words.specs.Blocks.{need}
+use Rattle.theorems.specs.Runs.{startedWords, answerTo, afterCall, callWords}
+use Rattle.theorems.proofs.RoundTrip.{encodes}
+use Rattle.theorems.proofs.Demand3.{calls-are-steps}
 use Rattle.sent.specs.declared.Place.{Place}
 use Rattle.sent.specs.Places.{nowhere, placesOf}
 use Rattle.messages.specs.Rows.{sentAt, messageOf, sentOf, noSent}
@@ -26,9 +27,9 @@ use Rattle.job_bytes.specs.Bytes.{bigAt}
 use Rattle.job_format.specs.Job.{tilesOf, addressOf, memoryOf, callsOf}
 use Rattle.job_bytes.proofs.Numbers.{below-more}
 use Rattle.job_format.proofs.Calls.{accepted-job}
-use Rattle.jobs.specs.Run.{benchCall}
+use Rattle.job_rules.specs.Run.{benchCall}
 use Rattle.answer_lines.specs.Answer.{sentLines, answerLines}
-use Rattle.job_lines.specs.Listing.{callLines, linesFrom, listingOf}
+use Rattle.job_rules.specs.Listing.{callLines, linesFrom, listingOf}
 use Rattle.whole_listing.specs.Rules.{messageLines, resultLines, stepLines, ruleListing, Bytes, Rules-statement}
 use Rattle.whole_listing.proofs.Carried.{AllTaken, call-taken, taken-flits}
 

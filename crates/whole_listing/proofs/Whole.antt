@@ -10,16 +10,17 @@ use lib.ListN.{length}
 use Rattle.lists.specs.Over.{bufferAfter, placeAfter, Placed, Put}
 use Rattle.lists.proofs.OverLaws.{over-nil, placed-put, placed-length, join}
 use Rattle.protocol.specs.Parts.{Call}
-use Rattle.bench_words.specs.Calls.{need, startOn, wordsStarted}
-use Rattle.bench.specs.Runs.{afterCall, startedWords}
+use Rattle.calls.specs.Calls.{startOn, wordsStarted}
+use Rattle.words.specs.Blocks.{need}
+use Rattle.theorems.specs.Runs.{afterCall, startedWords}
 use Rattle.lines.specs.Lines.{benchLine, endLine}
 use Rattle.job_bytes.specs.Bytes.{nextAt}
 use Rattle.job_check.specs.Check.{checkJob}
 use Rattle.job_format.specs.Job.{headerEnd, tilesOf, addressOf, memoryOf, callAt, callsFrom, callsOf, jobCallAt, callOf}
 use Rattle.job_format.proofs.Calls.{call-in, next-in, accepted-job}
-use Rattle.jobs.specs.Run.{benchCall}
+use Rattle.job_rules.specs.Run.{benchCall}
 use Rattle.answer_lines.specs.Pieces.{buffersAfter, placesAfter, AllPlaced}
-use Rattle.job_lines.specs.Listing.{callLines, linesFrom, listingOf}
+use Rattle.job_rules.specs.Listing.{callLines, linesFrom, listingOf}
 use Rattle.whole_listing.specs.Whole.{walkLines, bytesOf, Listing-statement, Fitted-statement}
 
 -- ---- the walk over a job's places

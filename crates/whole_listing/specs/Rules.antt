@@ -13,8 +13,8 @@ use Rattle.lines.specs.Lines.{benchLine, callLine, messageLine, endLine}
 use Rattle.job_check.specs.Check as check
 use Rattle.job_check.specs.Check.{checkJob}
 use Rattle.job_format.specs.Job.{tilesOf, addressOf, memoryOf, callsOf}
-use Rattle.jobs.specs.Run.{benchCall}
-use Rattle.job_lines.specs.Listing.{listingOf}
+use Rattle.job_rules.specs.Run.{benchCall}
+use Rattle.job_rules.specs.Listing.{listingOf}
 
 -- the flits of a message of the line with this address (01, 'Flits of a bench')
 unfoldable pub messageFlits : ℕ → Message → List ℕ

@@ -6,16 +6,17 @@ use mathlib.Core.List.{List, [], _∷_, _++_}
 use lib.Dec.{ltb}
 use lib.ListN.{length}
 use Rattle.lists.specs.Over.{Put}
-use Rattle.bench_words.specs.declared.Answer.{Answer}
-use Rattle.bench_words.specs.Calls.{need, startOn, wordsStarted}
-use Rattle.bench.specs.Runs.{afterCall}
+use Rattle.answers.specs.declared.Answer.{Answer}
+use Rattle.calls.specs.Calls.{startOn, wordsStarted}
+use Rattle.words.specs.Blocks.{need}
+use Rattle.theorems.specs.Runs.{afterCall}
 use Rattle.lines.specs.Lines.{benchLine, endLine}
 use Rattle.job_check.specs.Check.{checkJob, accepted}
 use Rattle.job_format.specs.Job.{headerEnd, tilesOf, addressOf, memoryOf, jobCallAt, callOf}
-use Rattle.jobs.specs.Run.{benchCall}
+use Rattle.job_rules.specs.Run.{benchCall}
 use Rattle.answer_lines.specs.Pieces.{AllPlaced}
 use Rattle.answer_lines.specs.Answer.{answerLines}
-use Rattle.job_lines.specs.Listing.{callLines, listingOf}
+use Rattle.job_rules.specs.Listing.{callLines, listingOf}
 
 -- Call after call, read at a place of the job, made on the words l that the last one left: its lines, and the next place's. n calls were
 -- made before; f is at least as many as there can be.

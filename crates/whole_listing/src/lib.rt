@@ -1,2 +1,1 @@
 // The theorems over the listing of a whole job stand in proofs/, their statements in specs/.
-pub use job_lines::run_call;

@@ -7,9 +7,9 @@ use native.Mathlib.Omega.{arith}
 use borrow.Author.Tests.{le-leb, lt-ltb, le-ltb, ltb-true, ltb-false, eq-eqb, ne-eqb, eqb-true, eqb-false}
 use lib.Dec.{ltb, leb, eqb}
 use lib.ListN.{length}
-use Rattle.bench_words.specs.Calls.{startOn, wordsStarted}
-use Rattle.bench.specs.Runs as bench
-use Rattle.bench.proofs.Demand3.{started as bench-started}
+use Rattle.calls.specs.Calls.{startOn, wordsStarted}
+use Rattle.theorems.specs.Runs as bench
+use Rattle.theorems.proofs.Demand3.{started as bench-started}
 use Rattle.lines.specs.Lines.{benchLine, endLine, refusedLine}
 use Rattle.job_check.specs.declared.Checked.{Checked}
 use Rattle.job_bytes.specs.Bytes.{nextAt}
@@ -18,8 +18,8 @@ use Rattle.job_check.specs.Check.{accepted, refused, checkEnd, checkFields, che
 use Rattle.job_format.specs.Job.{headerEnd, tilesOf, addressOf, memoryOf, callAt, callsOf, Call}
 use Rattle.job_format.specs.Accepted.{callsAt}
 use Rattle.job_format.proofs.Calls.{call-in, next-in, calls-step, calls-end, accepted-job}
-use Rattle.jobs.specs.Run.{benchCall}
-use Rattle.job_lines.specs.Listing.{callLines, linesFrom, listingOf}
+use Rattle.job_rules.specs.Run.{benchCall}
+use Rattle.job_rules.specs.Listing.{callLines, linesFrom, listingOf}
 use Rattle.whole_listing.specs.Whole.{bytesOf}
 use Rattle.whole_listing.specs.Rules.{ruleListing}
 use Rattle.whole_listing.proofs.Whole.{started}

@@ -8,11 +8,11 @@ use lib.ListN.{length, drop}
 use Rattle.protocol.specs.Bench.{fresh}
 use Rattle.protocol.specs.Demand3.{runs}
 use Rattle.codec.specs.Encode.{encode}
-use Rattle.bench_words.specs.Calls.{need}
+use Rattle.words.specs.Blocks.{need}
 use Rattle.lines.specs.Lines.{refusedLine}
 use Rattle.job_check.specs.Check.{checkJob, accepted}
 use Rattle.job_format.specs.Job.{tilesOf, memoryOf, callsOf}
-use Rattle.jobs.specs.Run.{benchCall}
+use Rattle.job_rules.specs.Run.{benchCall}
 use Rattle.whole_listing.specs.Whole.{bytesOf}
 use Rattle.whole_listing.specs.Rules.{ruleListing, Bytes}
 use Rattle.run_parts.specs.Run.{most, Left, firstPiece, nextPiece, runOf}

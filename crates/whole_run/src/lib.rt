@@ -1,2 +1,1 @@
 // The theorems over all pieces of a job's run stand in proofs/, their statements in specs/.
-pub use run_lines::Run;

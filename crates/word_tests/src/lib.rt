@@ -2,18 +2,27 @@
 ghost use mathlib.Core.Path.{_≡_};
 ghost use Prim.Native.Nat.{_+_, _≤_};
 ghost use lib.Dec.{eqb};
-ghost use lib.ListN.{length};
+ghost use lib.ListN.{length, take};
 ghost use Rattle.words.specs.Blocks.{rowAt};
 ghost use Rattle.codec.specs.Encode.{zeros, noRow};
 ghost use Rattle.codec.specs.Same.{same, sameRow};
 ghost use Rattle.word_tests.specs.Parts.{noneAt, clearBehind, bare, onlyData};
+
+// 0 exactly if the first eight words are 0.
+fn or_eight(s: &[u64]) -> u64
+    requires { ⌜ 8 ≤ length (now s) ⌝ }
+    ensures { λ r. ⌜ eqb r 0 ≡ same zeros (take 8 (now (s .entry))) ⌝ }
+{
+    s[0] | s[1] | s[2] | s[3] | s[4] | s[5] | s[6] | s[7]
+}
 
 // 0 exactly if the eight words of the row are 0.
 pub fn or8(w: &[u64], at: usize) -> u64
     requires { ⌜ at + 12 ≤ length (now w) ⌝ }
     ensures { λ r. ⌜ eqb r 0 ≡ same zeros (rowAt (now (w .entry)) at .words) ⌝ }
 {
-    w[at + 4] | w[at + 5] | w[at + 6] | w[at + 7] | w[at + 8] | w[at + 9] | w[at + 10] | w[at + 11]
+    let from = at + 4;
+    or_eight(&w[from..])
 }
 
 pub fn clear_data(w: &[u64], at: usize) -> bool

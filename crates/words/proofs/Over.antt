@@ -6,7 +6,7 @@ use native.Mathlib.Omega.{arith}
 use native.Mathlib.Nat.{add-assoc, add-zero}
 use native.Mathlib.Numerals.{add-one, towards-suc}
 use lib.ListN.{length, getD, set, take, drop, length-append, length-take, length-drop, length-set, take-append-drop}
-use lib.Seq.{sets, sets-eq, take-append-add, drop-append-add, take-append-seam, drop-append-seam, drop-drop, drop-cons, length-take-le, getD-append-add, take-at, drop-at, take-add, take-all}
+use lib.Seq.{sets, sets-eq, paste, paste-suc, drop-append-add, drop-drop, drop-cons, length-take-le, getD-drop, take-at, take-add, take-all, take-length, take-suc, take-suc-set}
 use Rattle.words.specs.declared.Row.{Row}
 use Rattle.words.specs.declared.Pair.{Pair}
 use Rattle.words.specs.declared.TileBlock.{TileBlock}
@@ -47,10 +47,24 @@ take-drop (suc n) l j h =
     let k : j < length l = omega arith in
     rw (drop-cons l j 0 k) (ap (λ (r : List ℕ). getD l j 0 ∷ r) (take-drop n l (suc j) (omega arith)))
 
--- the eight words of a row, read one by one
-pub eight-at : (l : List ℕ) (i : ℕ) → i + 12 ≤ length l → take 8 (drop (i + 4) l) ≡
-    getD l (i + 4) 0 ∷ getD l (i + 5) 0 ∷ getD l (i + 6) 0 ∷ getD l (i + 7) 0 ∷ getD l (i + 8) 0 ∷ getD l (i + 9) 0 ∷ getD l (i + 10) 0 ∷ getD l (i + 11) 0 ∷ []
-eight-at l i h = simp (← add-one, add-assoc) at (take-drop 8 l (i + 4) (omega arith))
+-- One turn of the loop that reads eight words, and its end.
+pub read-turn : (l d : List ℕ) (at i : ℕ) → i < length d → at + i < length l → take i d ≡ take i (drop at l) → take (i + 1) (set d i (getD l (at + i) 0)) ≡ take (i + 1) (drop at l)
+read-turn l d at i h k e =
+    let m : i < length (drop at l) = simp length-drop (omega arith) in
+    rw add-one (take-suc-set d i (getD l (at + i) 0) h ∙ ap (λ (r : List ℕ). r ++ (getD l (at + i) 0 ∷ [])) e
+    ∙ ap (λ (v : ℕ). take i (drop at l) ++ (v ∷ [])) (sym (getD-drop at l i 0)) ∙ sym (take-suc (drop at l) i 0 m))
+
+pub read-end : (l d : List ℕ) (at i : ℕ) → length d ≡ 8 → i ≡ 8 → take i d ≡ take i (drop at l) → d ≡ take 8 (drop at l)
+read-end l d at i n k e = sym (take-all 8 d (omega arith)) ∙ subst (λ (j : ℕ). take j d ≡ take j (drop at l)) k e
+
+-- and of the loop that writes them
+pub write-turn : (l m d : List ℕ) (at i : ℕ) → i < length d → at + i < length l → m ≡ paste l at d i → set m (at + i) (getD d i 0) ≡ paste l at d (i + 1)
+write-turn l m d at i h k e = rw add-one (ap (λ (r : List ℕ). set r (at + i) (getD d i 0)) e ∙ paste-suc l at d i 0 k h)
+
+pub write-end : (l m d : List ℕ) (at i : ℕ) → i ≡ length d → m ≡ paste l at d i → m ≡ over l at d
+unfolding over
+write-end l m d at i k e =
+    subst (λ (j : ℕ). m ≡ paste l at d j) k e ∙ ap (λ (r : List ℕ). take at l ++ r ++ drop (at + length d) l) (take-length d) ∙ append-assoc (take at l) d (drop (at + length d) l)
 
 -- two parts that stand one after the other
 pub join : (l : List ℕ) (i j m n : ℕ) {xs ys : List ℕ} → j ≡ i + m → xs ≡ take m (drop i l) → ys ≡ take n (drop j l) → xs ++ ys ≡ take (m + n) (drop i l)
@@ -80,14 +94,14 @@ home-words l h =
     (join l 14 26 12 48 refl (row-words l 14 (omega arith))
     (join l 26 50 24 24 refl (pair-words l 26 (omega arith)) (pair-words l 50 (omega arith)))))
 
--- a list of eight is its elements
+-- the first eight elements of a list, and a list of eight
+pub first-eight : (l : List ℕ) → 8 ≤ length l → take 8 l ≡ getD l 0 0 ∷ getD l 1 0 ∷ getD l 2 0 ∷ getD l 3 0 ∷ getD l 4 0 ∷ getD l 5 0 ∷ getD l 6 0 ∷ getD l 7 0 ∷ []
+first-eight l h = take-drop 8 l 0 (omega arith)
+
 pub eight : (l : List ℕ) → length l ≡ 8 → l ≡ getD l 0 0 ∷ getD l 1 0 ∷ getD l 2 0 ∷ getD l 3 0 ∷ getD l 4 0 ∷ getD l 5 0 ∷ getD l 6 0 ∷ getD l 7 0 ∷ []
-eight l h = sym (take-all 8 l (omega arith)) ∙ take-drop 8 l 0 (omega arith)
+eight l h = sym (take-all 8 l (omega arith)) ∙ first-eight l (omega arith)
 
 -- stores one after the other, as each writing function makes them
-pub two-stores : (l : List ℕ) (i a b : ℕ) → i + 2 ≤ length l → set (set l i a) (i + 1) b ≡ over l i (a ∷ b ∷ [])
-two-stores l i a b h = simp towards-suc (sets-over l i (a ∷ b ∷ []) h)
-
 pub four-stores : (l : List ℕ) (i a b c d : ℕ) → i + 4 ≤ length l → set (set (set (set l i a) (i + 1) b) (i + 2) c) (i + 3) d ≡ over l i (a ∷ b ∷ c ∷ d ∷ [])
 four-stores l i a b c d h = simp towards-suc (sets-over l i (a ∷ b ∷ c ∷ d ∷ []) h)
 
@@ -95,22 +109,13 @@ pub length-row : (r : Row) → length (r .words) ≡ 8 → length (rowWords r) �
 unfolding rowWords
 length-row r n = rw n
 
-pub read-row : (l : List ℕ) (i : ℕ) → i + 12 ≤ length l →
-    _≡_ {A = Row} (record { n0 = getD l i 0; n1 = getD l (i + 1) 0; n2 = getD l (i + 2) 0; n3 = getD l (i + 3) 0; words = getD l (i + 4) 0 ∷ getD l (i + 5) 0 ∷ getD l (i + 6) 0 ∷ getD l (i + 7) 0 ∷ getD l (i + 8) 0 ∷ getD l (i + 9) 0 ∷ getD l (i + 10) 0 ∷ getD l (i + 11) 0 ∷ [] }) (rowAt l i)
-unfolding rowAt
-read-row l i h = ap {B = Row} (λ (ws : List ℕ). record { n0 = getD l i 0; n1 = getD l (i + 1) 0; n2 = getD l (i + 2) 0; n3 = getD l (i + 3) 0; words = ws }) (sym (eight-at l i h))
-
 -- a list written over in pieces, each on what the last one left
 pub then-over : (l m n : List ℕ) (i j : ℕ) (xs ys : List ℕ) → i ≤ length l → j ≡ i + length xs → m ≡ over l i xs → n ≡ over m j ys → n ≡ over l i (xs ++ ys)
 then-over l m n i j xs ys h e p q = q ∙ ap (λ (x : List ℕ). over x j ys) p ∙ over-over l i j xs ys h e
 
-pub write-row : (l l1 l2 l3 : List ℕ) (i : ℕ) (r : Row) → i + 12 ≤ length l → length (r .words) ≡ 8 → l1 ≡ over l i (r .n0 ∷ r .n1 ∷ r .n2 ∷ r .n3 ∷ []) →
-    l2 ≡ over l1 (i + 4) (getD (r .words) 0 0 ∷ getD (r .words) 1 0 ∷ getD (r .words) 2 0 ∷ getD (r .words) 3 0 ∷ []) →
-    l3 ≡ over l2 (i + 8) (getD (r .words) 4 0 ∷ getD (r .words) 5 0 ∷ getD (r .words) 6 0 ∷ getD (r .words) 7 0 ∷ []) → l3 ≡ over l i (rowWords r)
+pub write-row : (l l1 l2 : List ℕ) (i : ℕ) (r : Row) → i + 12 ≤ length l → l1 ≡ over l i (r .n0 ∷ r .n1 ∷ r .n2 ∷ r .n3 ∷ []) → l2 ≡ over l1 (i + 4) (r .words) → l2 ≡ over l i (rowWords r)
 unfolding rowWords
-write-row l l1 l2 l3 i r h n e1 e2 e3 =
-    then-over l l2 l3 i (i + 8) _ _ (omega arith) refl (then-over l l1 l2 i (i + 4) _ _ (omega arith) refl e1 e2) e3
-    ∙ ap (λ (x : List ℕ). over l i (r .n0 ∷ r .n1 ∷ r .n2 ∷ r .n3 ∷ x)) (sym (eight (r .words) n))
+write-row l l1 l2 i r h e1 e2 = then-over l l1 l2 i (i + 4) _ _ (omega arith) refl e1 e2
 
 pub length-pair : (p : Pair) → PairFull p → length (pairWords p) ≡ 24
 unfolding pairWords

@@ -1,13 +1,17 @@
 -- Where the parts of a bench stand in its words: rows of four numbers and eight words, pairs of rows, and the blocks of a tile
 -- and of the home made of them, with no word between them.
 use mathlib.Core.Path.{_≡_}
-use Prim.Native.Nat.{ℕ, _+_}
+use Prim.Native.Nat.{ℕ, _+_, _*_}
 use mathlib.Core.List.{List, [], _∷_, _++_}
 use lib.ListN.{length, getD, take, drop}
 use Rattle.words.specs.declared.Row.{Row}
 use Rattle.words.specs.declared.Pair.{Pair}
 use Rattle.words.specs.declared.TileBlock.{TileBlock}
 use Rattle.words.specs.declared.HomeBlock.{HomeBlock}
+
+-- the words that n tiles need: the home's block and one for each tile
+abbrev pub need : ℕ → ℕ
+need n = 74 + 84 * n
 
 -- reading, at a place of a list
 unfoldable pub rowAt : List ℕ → ℕ → Row

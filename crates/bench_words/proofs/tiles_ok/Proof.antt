@@ -1,18 +1,19 @@
 use Prim.Native.Nat.{_+_, _-_, _*_, _≤_}
 use mathlib.Core.Path.{_≡_, refl, ap, sym, _∙_}
-use mathlib.Core.Bool.{Bool, true, _&&_}
+use mathlib.Core.Bool.{Bool, true, false}
 use native.Mathlib.Omega.{arith}
-use borrow.Author.Needs.{needs}
-use Rattle.bench_words.specs.Calls.{tilesOk}
-use Rattle.bench_words.proofs.Guard.{tiles-turn, tiles-end}
+use Rattle.words.specs.Blocks.{tileAt}
+use Rattle.codec.specs.Same.{tileOk}
+use Rattle.calls.specs.Calls.{tilesOk}
+use Rattle.bench_words.proofs.Guard.{tiles-turn, tiles-end, tiles-false}
 use Rattle.bench_words.proofs.tiles_ok.Statement.{statement}
 use Rattle.bench_words.proofs.tiles_ok.Tie as tie
 
 abbrev Inv-loop : tie.InvT-loop
-Inv-loop w n ok₀ at₀ i₀ ok at i = (tilesOk ok w at (n - i) ≡ tilesOk true w 74 n) × (at ≡ 74 + 84 * i) × (i ≤ n)
+Inv-loop w n at₀ i₀ at i = (tilesOk true w at (n - i) ≡ tilesOk true w 74 n) × (at ≡ 74 + 84 * i) × (i ≤ n)
 
 abbrev μ-loop : tie.MeasureT-loop
-μ-loop w n ok₀ at₀ i₀ ok at i = n - i
+μ-loop w n at₀ i₀ at i = n - i
 
 loop-holds : tie.Need-loop-holds Inv-loop μ-loop
 loop-holds c =
@@ -21,6 +22,17 @@ loop-holds c =
 
 tile-ok-at-requires : tie.Need-tile-ok-at-requires Inv-loop μ-loop
 tile-ok-at-requires c κs = omega arith
+
+-- a tile that is not well formed
+returns : tie.Need-returns Inv-loop μ-loop
+returns c =
+    let l = c .before .before .before .before .before .args .w .now in
+    let n = c .before .before .before .before .before .args .n in
+    let at = c .before .before .before .loop .at in
+    let i = c .before .before .before .loop .i in
+    let one : tileOk (tileAt l at) ≡ false = sym (c .before .tile-ok-at .ensures) ∙ c .if1 .left in
+    sym (tiles-false l (n - (i + 1)) (at + 84)) ∙ ap (λ (b : Bool). tilesOk b l (at + 84) (n - (i + 1))) (sym one)
+    ∙ sym (tiles-turn true l at i n (c .before .before .loop-test .taken)) ∙ c .before .before .before .loop .inv .0
 
 add-at : tie.Need-add-at Inv-loop μ-loop
 add-at c = omega arith
@@ -33,18 +45,18 @@ loop-less c = omega arith
 
 loop-again : tie.Need-loop-again Inv-loop μ-loop
 loop-again c =
-    let l = c .before .before .before .before .args .w .now in
-    let n = c .before .before .before .before .args .n in
-    let i = c .before .before .loop .i in (
-      ap (λ (b : Bool). tilesOk (c .before .before .loop .ok && b) l (c .before .before .loop .at + 84) (n - (i + 1))) (c .tile-ok-at .ensures)
-          ∙ sym (tiles-turn (c .before .before .loop .ok) l (c .before .before .loop .at) i n (c .before .loop-test .taken))
-          ∙ c .before .before .loop .inv .0,
+    let l = c .before .before .before .before .before .args .w .now in
+    let n = c .before .before .before .before .before .args .n in
+    let at = c .before .before .before .loop .at in
+    let i = c .before .before .before .loop .i in
+    let one : tileOk (tileAt l at) ≡ true = sym (c .before .tile-ok-at .ensures) ∙ c .if1 .taken in (
+      ap (λ (b : Bool). tilesOk b l (at + 84) (n - (i + 1))) (sym one) ∙ sym (tiles-turn true l at i n (c .before .before .loop-test .taken)) ∙ c .before .before .before .loop .inv .0,
       omega arith,
       omega arith,
     )
 
-returns : tie.Need-returns Inv-loop μ-loop
-returns c = sym (tiles-end (c .before .loop .ok) (c .before .before .before .args .w .now) (c .before .loop .at) (c .before .loop .i) (c .before .before .before .args .n) (c .loop-test .left)) ∙ c .before .loop .inv .0
+returns-2 : tie.Need-returns-2 Inv-loop μ-loop
+returns-2 c = sym (tiles-end true (c .before .before .before .args .w .now) (c .before .loop .at) (c .before .loop .i) (c .before .before .before .args .n) (c .loop-test .left)) ∙ c .before .loop .inv .0
 
 pub tiles-ok-spec : {M : Type 1} → statement M
 tiles-ok-spec =
@@ -54,8 +66,9 @@ tiles-ok-spec =
     μ-loop
     loop-holds
     tile-ok-at-requires
+    returns
     add-at
     add-i
     loop-less
     loop-again
-    returns)
+    returns-2)

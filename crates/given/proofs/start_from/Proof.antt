@@ -1,6 +1,6 @@
 use mathlib.Core.Path.{refl}
 use borrow.Author.Tests.{eq-eqb, ne-eqb}
-use Rattle.bench_words.specs.Calls.{answerOf, wordsStarted}
+use Rattle.calls.specs.Calls.{answerOf, wordsStarted}
 use Rattle.given.specs.Given.{startFrom}
 use borrow.Author.Needs.{needs}
 use Rattle.given.proofs.start_from.Statement.{statement}

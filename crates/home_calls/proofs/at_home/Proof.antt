@@ -1,9 +1,9 @@
-use mathlib.Core.Path.{refl, sym, _∙_}
+use mathlib.Core.Path.{sym, _∙_}
 use native.Mathlib.Omega.{arith}
-use Rattle.bench_words.specs.Calls.{homeCall}
-use Rattle.bench_words.proofs.Decoded.{found}
-use Rattle.bench_words.proofs.Meets.{malformed}
-use Rattle.home_calls.proofs.HomeCalls.{home-done, home-early}
+use Rattle.call_tags.specs.Tags.{homeCall}
+use Rattle.calls.proofs.Decoded.{found}
+use Rattle.calls.proofs.Meets.{malformed}
+use Rattle.home_calls.proofs.HomeCalls.{last-there, memory-serves, serves}
 use borrow.Author.Needs.{needs}
 use Rattle.home_calls.proofs.at_home.Statement.{statement}
 use Rattle.home_calls.proofs.at_home.Tie as tie
@@ -11,29 +11,29 @@ use Rattle.home_calls.proofs.at_home.Tie as tie
 slice-read-n : tie.Need-slice-read-n
 slice-read-n c = omega (arith, found _ (sym (c .before .before .well-formed .ensures) ∙ c .before .if1 .taken) .long)
 
-refusal-of-requires : tie.Need-refusal-of-requires
-refusal-of-requires c κs = omega (arith, found _ (sym (c .before .before .before .well-formed .ensures) ∙ c .before .before .if1 .taken) .long)
+memory-step-requires : tie.Need-memory-step-requires
+memory-step-requires c κs = (found _ (sym (c .before .before .before .before .well-formed .ensures) ∙ c .before .before .before .if1 .taken) .enough, found _ (sym (c .before .before .before .before .well-formed .ensures) ∙ c .before .before .before .if1 .taken) .most)
 
-home-step-requires : tie.Need-home-step-requires
-home-step-requires c κs = (found _ (sym (c .before .before .before .before .before .before .well-formed .ensures) ∙ c .before .before .before .before .before .if1 .taken) .enough, found _ (sym (c .before .before .before .before .before .before .well-formed .ensures) ∙ c .before .before .before .before .before .if1 .taken) .most)
+serve-requires : tie.Need-serve-requires
+serve-requires c κs =
+    let wf = sym (c .before .before .before .before .well-formed .ensures) ∙ c .before .before .before .if1 .taken in
+    let f = found (c .before .before .before .before .before .before .before .args .w .now) wf in
+    (f .enough, f .most, f .long, omega (arith, last-there (c .before .before .before .before .before .before .before .args .w .now) wf, f .most))
 
 returns : tie.Need-returns
 returns c =
-    let a = c .before .before .before .before .before .before .before .before .before .before .before .before .args in
-    let m = home-done (a .w .now) (sym (c .before .before .before .before .before .before .before .before .before .well-formed .ensures) ∙ c .before .before .before .before .before .before .before .before .if1 .taken) (a .c) _ refl _ _ (c .before .before .home-step .ensures) in
+    let m = memory-serves (c .before .before .before .before .before .before .before .before .before .before .args .w .now) (sym (c .before .before .before .before .before .before .before .well-formed .ensures) ∙ c .before .before .before .before .before .before .if1 .taken) _ _ (c .before .before .before .before .before .before .before .before .before .before .args .c) (c .before .before .before .before .before .before .before .before .before .before .args .t) (c .before .before .before .before .if2 .taken) (c .before .before .memory-step .ensures) in
     (m .answer, m .words)
 
 returns-2 : tie.Need-returns-2
 returns-2 c =
-    let a = c .before .before .before .before .before .before .before .before .before .args in
-    let m = home-early (a .w .now) (sym (c .before .before .before .before .before .before .well-formed .ensures) ∙ c .before .before .before .before .before .if1 .taken) (a .c) _ (c .before .before .refusal-of .ensures) (c .before .if2 .left) in
-    (c .refused .ensures ∙ m .answer, m .words)
+    let m = serves (c .before .before .before .before .before .before .before .before .before .before .args .w .now) (sym (c .before .before .before .before .before .before .before .well-formed .ensures) ∙ c .before .before .before .before .before .before .if1 .taken) _ _ (c .before .before .before .before .before .before .before .before .before .before .args .c) (c .before .before .before .before .before .before .before .before .before .before .args .t) (c .before .before .before .before .if2 .left) (c .before .before .serve .ensures) in
+    (m .answer, m .words)
 
 returns-3 : tie.Need-returns-3
 returns-3 c =
-    let a = c .before .before .before .before .before .args in
-    let m = malformed (a .w .now) (homeCall (a .c)) (sym (c .before .before .well-formed .ensures) ∙ c .before .if1 .left) in
-    (c .refused2 .ensures ∙ m .answer, m .words)
+    let m = malformed (c .before .before .before .before .before .args .w .now) (homeCall (c .before .before .before .before .before .args .c) (c .before .before .before .before .before .args .t)) (sym (c .before .before .well-formed .ensures) ∙ c .before .if1 .left) in
+    (c .refused .ensures ∙ m .answer, m .words)
 
 pub at-home-spec : {M : Type 1} → statement M
 at-home-spec =
@@ -41,9 +41,8 @@ at-home-spec =
     (tie.spec
     (λ c κs. search needs)
     slice-read-n
-    refusal-of-requires
-    home-step-requires
-    (λ c κs. search needs)
+    memory-step-requires
+    serve-requires
     (λ c κs. search needs)
     (λ c. search needs)
     returns

@@ -1,4 +1,4 @@
-use Rattle.bench_words.specs.Calls.{homeCall}
+use Rattle.call_tags.specs.Tags.{homeCall}
 use borrow.Author.Needs.{needs}
 use Rattle.home_calls.proofs.home_eviction.Statement.{statement}
 use Rattle.home_calls.proofs.home_eviction.Tie as tie

@@ -1,4 +1,4 @@
-use Rattle.home_words.proofs.Parts.{answered-at}
+use Rattle.home_numbers.proofs.Parts.{answered-at}
 use borrow.Author.Needs.{needs}
 use Rattle.home_words.proofs.answer_at.Statement.{statement}
 use Rattle.home_words.proofs.answer_at.Tie as tie

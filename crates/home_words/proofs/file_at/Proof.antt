@@ -1,4 +1,4 @@
-use Rattle.home_words.proofs.Parts.{filed-at}
+use Rattle.home_numbers.proofs.Parts.{filed-at}
 use borrow.Author.Needs.{needs}
 use Rattle.home_words.proofs.file_at.Statement.{statement}
 use Rattle.home_words.proofs.file_at.Tie as tie

@@ -1,6 +1,6 @@
 use Rattle.home_parts.specs.Numbers.{numbered, outAfter, lined}
-use Rattle.home_words.proofs.Parts.{home-then}
-use Rattle.home_words.specs.InPlace.{sourced}
+use Rattle.home_numbers.proofs.Parts.{home-then}
+use Rattle.home_numbers.specs.InPlace.{sourced}
 use borrow.Author.Needs.{needs}
 use Rattle.home_words.proofs.move_at.Statement.{statement}
 use Rattle.home_words.proofs.move_at.Tie as tie

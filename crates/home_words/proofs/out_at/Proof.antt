@@ -1,4 +1,4 @@
-use Rattle.home_words.proofs.Parts.{out-none, out-store, out-load}
+use Rattle.home_numbers.proofs.Parts.{out-none, out-store, out-load}
 use borrow.Author.Needs.{needs}
 use Rattle.home_words.proofs.out_at.Statement.{statement}
 use Rattle.home_words.proofs.out_at.Tie as tie

@@ -1,4 +1,4 @@
-use Rattle.home_words.proofs.Parts.{served-at}
+use Rattle.home_numbers.proofs.Parts.{served-at}
 use borrow.Author.Needs.{needs}
 use Rattle.home_words.proofs.serve_at.Statement.{statement}
 use Rattle.home_words.proofs.serve_at.Tie as tie

@@ -1,4 +1,4 @@
-use Rattle.home_words.proofs.Parts.{source-kept, source-none, source-new}
+use Rattle.home_numbers.proofs.Parts.{source-kept, source-none, source-new}
 use borrow.Author.Needs.{needs}
 use Rattle.home_words.proofs.source_at.Statement.{statement}
 use Rattle.home_words.proofs.source_at.Tie as tie

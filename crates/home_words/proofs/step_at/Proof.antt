@@ -1,6 +1,6 @@
 use Rattle.home_parts.specs.Numbers.{setMemory}
-use Rattle.home_words.proofs.Parts.{home-then}
-use Rattle.home_words.specs.InPlace.{served, answered}
+use Rattle.home_numbers.proofs.Parts.{home-then}
+use Rattle.home_numbers.specs.InPlace.{served, answered}
 use borrow.Author.Needs.{needs}
 use Rattle.home_words.proofs.step_at.Statement.{statement}
 use Rattle.home_words.proofs.step_at.Tie as tie

@@ -1,5 +1,5 @@
-use Rattle.bench.specs.Runs.{answerTo, afterCall}
-use Rattle.job_lines.specs.Listing.{callLines}
+use Rattle.theorems.specs.Runs.{answerTo, afterCall}
+use Rattle.job_rules.specs.Listing.{callLines}
 use borrow.Author.Needs.{needs}
 use Rattle.job_lines.proofs.run_call.Statement.{statement}
 use Rattle.job_lines.proofs.run_call.Tie as tie

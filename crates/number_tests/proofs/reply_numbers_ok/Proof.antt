@@ -6,22 +6,18 @@ use Rattle.number_tests.proofs.reply_numbers_ok.Tie as tie
 use Rattle.number_tests.proofs.reply_numbers_ok.Reads as reads
 use Rattle.number_tests.proofs.reply_numbers_ok.Lts as lts
 
--- src/lib.rt:53:1
 returns : tie.Need-returns
 unfolding replyNumbersOk
 returns c = simp (eq-eqb _ _ (c .if1 .taken))
 
--- src/lib.rt:53:1
 returns-2 : tie.Need-returns-2
 unfolding replyNumbersOk
 returns-2 c = simp (eq-eqb _ _ (c .if2 .taken), ne-eqb _ _ (c .before .if1 .left))
 
--- src/lib.rt:53:1
 returns-3 : tie.Need-returns-3
 unfolding replyNumbersOk
 returns-3 c = simp (eq-eqb _ _ (c .if3 .taken), ne-eqb _ _ (c .before .if2 .left), ne-eqb _ _ (c .before .before .if1 .left))
 
--- src/lib.rt:53:1
 returns-4 : tie.Need-returns-4
 unfolding replyNumbersOk
 returns-4 c = simp (ne-eqb _ _ (c .if3 .left), ne-eqb _ _ (c .before .if2 .left), ne-eqb _ _ (c .before .before .if1 .left))

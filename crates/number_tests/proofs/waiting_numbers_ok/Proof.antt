@@ -6,22 +6,18 @@ use Rattle.number_tests.proofs.waiting_numbers_ok.Tie as tie
 use Rattle.number_tests.proofs.waiting_numbers_ok.Reads as reads
 use Rattle.number_tests.proofs.waiting_numbers_ok.Lts as lts
 
--- src/lib.rt:74:1
 returns : tie.Need-returns
 unfolding waitingNumbersOk
 returns c = simp (c .match .keys1)
 
--- src/lib.rt:74:1
 returns-2 : tie.Need-returns-2
 unfolding waitingNumbersOk
 returns-2 c = simp (c .match .keys2)
 
--- src/lib.rt:74:1
 returns-3 : tie.Need-returns-3
 unfolding waitingNumbersOk
 returns-3 c = simp (c .match .keys3)
 
--- src/lib.rt:74:1
 returns-4 : tie.Need-returns-4
 unfolding waitingNumbersOk
 returns-4 c = simp (ne-eqb _ _ (c .match .rest .1), ne-eqb _ _ (c .match .rest .0 .1), ne-eqb _ _ (c .match .rest .0 .0 .1))

@@ -4,7 +4,7 @@ use mathlib.Core.Bool.{Bool, true}
 use native.Mathlib.Omega.{arith}
 use lib.ListN.{getD}
 use borrow.Author.Needs.{needs}
-use Rattle.bits.specs.Mask.{has}
+use Rattle.masks.specs.Mask.{has}
 use Rattle.find_first.specs.Next.{next}
 use Rattle.find_first.proofs.NextLaws.{next-in, next-from}
 use Rattle.protocol.specs.Home.{members}

@@ -2,9 +2,9 @@ use Prim.Native.Nat.{_<_}
 use mathlib.Core.Path.{refl, sym, _∙_}
 use native.Mathlib.Omega.{arith}
 use Rattle.words.specs.Blocks.{tileAt, rowAt}
-use Rattle.bench_words.specs.Calls.{tileCall}
-use Rattle.bench_words.proofs.Decoded.{found}
-use Rattle.bench_words.proofs.Meets.{malformed}
+use Rattle.call_tags.specs.Tags.{tileCall}
+use Rattle.calls.proofs.Decoded.{found}
+use Rattle.calls.proofs.Meets.{malformed}
 use Rattle.tile_calls.proofs.TileCalls.{no-tile, refused-in-place, done-in-place, word-below}
 use borrow.Author.Needs.{needs}
 use Rattle.tile_calls.proofs.at_tile.Statement.{statement}

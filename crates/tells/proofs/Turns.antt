@@ -1,0 +1,95 @@
+-- One turn, and the end, of each loop over the tiles of a mask: from one tile in it to the next. Assumes nothing.
+use Prim.Native.Nat.{ℕ, suc, _+_, _-_, _*_, _<_, _≤_}
+use mathlib.Core.Path.{_≡_, refl, ap, sym, _∙_}
+use mathlib.Core.Bool.{Bool, true, false, _&&_}
+use mathlib.Core.List.{List}
+use native.Mathlib.Omega.{arith}
+use native.Mathlib.Numerals.{add-one}
+use Rattle.masks.specs.Mask.{has}
+use Rattle.find_first.specs.Next.{next}
+use Rattle.find_first.proofs.NextLaws.{skip-to-next}
+use Rattle.words.specs.declared.Row.{Row}
+use Rattle.words.specs.Blocks.{tileAt, over, tileWords}
+use Rattle.queue_words.specs.Queues.{room}
+use Rattle.tells.specs.Tells.{oneRoom, rooms, toldTile, tellOne, tellAll}
+
+pub and-true : (a : Bool) → (a && true) ≡ a
+and-true true = refl
+and-true false = refl
+
+-- the next block
+pub next-place : (i : ℕ) → 74 + 84 * i + 84 ≡ 74 + 84 * suc i
+next-place i = omega arith
+
+one-more : (i n : ℕ) → i < n → n - i ≡ suc (n - suc i)
+one-more i n h = omega arith
+
+no-more : (i n : ℕ) → n ≤ i → n - i ≡ 0
+no-more i n h = omega arith
+
+module _ (l : List ℕ) (to n : ℕ) where
+  -- rooms from tile i on
+  abbrev roomsAt : Bool → ℕ → Bool
+  roomsAt a i = rooms a l (74 + 84 * i) i to (n - i)
+
+  step-room : (a : Bool) (i k : ℕ) (b : Bool) → oneRoom l (74 + 84 * i) i to ≡ b → rooms a l (74 + 84 * i) i to (suc k) ≡ rooms (a && b) l (74 + 84 * suc i) (suc i) to k
+  unfolding rooms
+  step-room a i k b e = rw (e, next-place i, add-one i)
+
+  unset-room : (i : ℕ) → has to i ≡ false → oneRoom l (74 + 84 * i) i to ≡ true
+  unfolding oneRoom
+  unset-room i e = rw e
+
+  set-room : (i : ℕ) → has to i ≡ true → oneRoom l (74 + 84 * i) i to ≡ room (tileAt l (74 + 84 * i) .noc2)
+  unfolding oneRoom
+  set-room i e = rw e
+
+  done-room : (a : Bool) (i j : ℕ) → rooms a l (74 + 84 * i) i to 0 ≡ rooms a l (74 + 84 * j) j to 0
+  unfolding rooms
+  done-room a i j = refl
+
+  pub rooms-skip : (a : Bool) (i : ℕ) → n ≤ 64 → i ≤ 64 → roomsAt a i ≡ roomsAt a (next to i)
+  rooms-skip a i s h =
+      skip-to-next (λ i k. rooms a l (74 + 84 * i) i to k) to n s (λ i k e. step-room a i k true (unset-room i e) ∙ ap (λ (z : Bool). rooms z l (74 + 84 * suc i) (suc i) to k) (and-true a)) (done-room a) i h
+
+  pub rooms-turn : (a : Bool) (i : ℕ) → n ≤ 64 → i < n → has to i ≡ true → roomsAt a i ≡ roomsAt (a && room (tileAt l (74 + 84 * i) .noc2)) (next to (i + 1))
+  rooms-turn a i s h e =
+      ap (rooms a l (74 + 84 * i) i to) (one-more i n h) ∙ step-room a i (n - suc i) _ (set-room i e) ∙ rooms-skip (a && room (tileAt l (74 + 84 * i) .noc2)) (suc i) s (omega arith)
+      ∙ ap (λ (x : ℕ). roomsAt (a && room (tileAt l (74 + 84 * i) .noc2)) (next to x)) (sym (add-one i))
+
+  pub rooms-end : (a : Bool) (i : ℕ) → n ≤ i → roomsAt a i ≡ a
+  unfolding rooms
+  rooms-end a i h = ap (rooms a l (74 + 84 * i) i to) (no-more i n h)
+
+module _ (to n : ℕ) (m : Row) where
+  -- telling from tile i on
+  abbrev tellAt : List ℕ → ℕ → List ℕ
+  tellAt l i = tellAll l (74 + 84 * i) i to m (n - i)
+
+  step-tell : (l : List ℕ) (i k : ℕ) (b : List ℕ) → tellOne l (74 + 84 * i) i to m ≡ b → tellAll l (74 + 84 * i) i to m (suc k) ≡ tellAll b (74 + 84 * suc i) (suc i) to m k
+  unfolding tellAll
+  step-tell l i k b e = rw (e, next-place i, add-one i)
+
+  unset-tell : (l : List ℕ) (i : ℕ) → has to i ≡ false → tellOne l (74 + 84 * i) i to m ≡ l
+  unfolding tellOne
+  unset-tell l i e = rw e
+
+  set-tell : (l : List ℕ) (i : ℕ) → has to i ≡ true → tellOne l (74 + 84 * i) i to m ≡ over l (74 + 84 * i) (tileWords (toldTile m (tileAt l (74 + 84 * i))))
+  unfolding tellOne
+  set-tell l i e = rw e
+
+  done-tell : (l : List ℕ) (i j : ℕ) → tellAll l (74 + 84 * i) i to m 0 ≡ tellAll l (74 + 84 * j) j to m 0
+  unfolding tellAll
+  done-tell l i j = refl
+
+  pub tell-skip : (l : List ℕ) (i : ℕ) → n ≤ 64 → i ≤ 64 → tellAt l i ≡ tellAt l (next to i)
+  tell-skip l i s h = skip-to-next (λ i k. tellAll l (74 + 84 * i) i to m k) to n s (λ i k e. step-tell l i k l (unset-tell l i e)) (done-tell l) i h
+
+  pub tell-turn : (l : List ℕ) (i : ℕ) → n ≤ 64 → i < n → has to i ≡ true → tellAt l i ≡ tellAt (over l (74 + 84 * i) (tileWords (toldTile m (tileAt l (74 + 84 * i))))) (next to (i + 1))
+  tell-turn l i s h e =
+      let b = over l (74 + 84 * i) (tileWords (toldTile m (tileAt l (74 + 84 * i)))) in
+      ap (tellAll l (74 + 84 * i) i to m) (one-more i n h) ∙ step-tell l i (n - suc i) b (set-tell l i e) ∙ tell-skip b (suc i) s (omega arith) ∙ ap (λ (x : ℕ). tellAt b (next to x)) (sym (add-one i))
+
+  pub tell-end : (l : List ℕ) (i : ℕ) → n ≤ i → tellAt l i ≡ l
+  unfolding tellAll
+  tell-end l i h = ap (tellAll l (74 + 84 * i) i to m) (no-more i n h)
