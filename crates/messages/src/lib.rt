@@ -92,14 +92,14 @@ fn row_in(w: &[u64], queue: u64, tile: u64) -> Row
 pub fn count(sent: u64, tiles: u64) -> u64
     ensures { λ r. ⌜ r ≡ length (placesOf sent tiles) ⌝ }
 {
-    sent::count(sent, tiles)
+    sent_queues::count(sent, tiles)
 }
 
 // The i-th of them, from 0, out of the words after the call.
 pub fn message(w: &[u64], sent: u64, tiles: u64, i: u64) -> Sent
     ensures { λ r. ⌜ r ≡ messageOf (now (w .entry)) sent tiles i ⌝ }
 {
-    let p = sent::queue_of(sent, tiles, i);
+    let p = sent_queues::queue_of(sent, tiles, i);
     let row = row_in(w, p.queue, p.tile);
     Sent {
         queue: p.queue,

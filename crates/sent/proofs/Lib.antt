@@ -1,4 +1,3 @@
 pub mod Rising
 pub mod Last
 pub mod Sends
-pub mod Members

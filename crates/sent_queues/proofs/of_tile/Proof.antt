@@ -1,8 +1,8 @@
 use mathlib.Core.Path.{refl}
 use borrow.Author.Tests.{eq-eqb, ne-eqb, lt-ltb, le-ltb, le-leb, lt-leb}
 use Rattle.sent.specs.Places.{ofTile}
-use Rattle.sent.proofs.of_tile.Statement.{statement}
-use Rattle.sent.proofs.of_tile.Tie as tie
+use Rattle.sent_queues.proofs.of_tile.Statement.{statement}
+use Rattle.sent_queues.proofs.of_tile.Tie as tie
 
 returns : tie.Need-returns
 unfolding ofTile

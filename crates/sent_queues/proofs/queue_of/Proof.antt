@@ -1,10 +1,10 @@
-use Rattle.sent.proofs.Members.{tile-at, both-3, both-1, both-none, past-one, length-each, length-both}
+use Rattle.sent_queues.proofs.Members.{tile-at, both-3, both-1, both-none, past-one, length-each, length-both}
 use mathlib.Core.Path.{refl}
 use borrow.Author.Tests.{eq-eqb, ne-eqb, lt-ltb, le-ltb, le-leb, lt-leb}
 use Rattle.sent.specs.Places.{placesOf}
 use borrow.Author.Needs.{needs}
-use Rattle.sent.proofs.queue_of.Statement.{statement}
-use Rattle.sent.proofs.queue_of.Tie as tie
+use Rattle.sent_queues.proofs.queue_of.Statement.{statement}
+use Rattle.sent_queues.proofs.queue_of.Tie as tie
 
 returns : tie.Need-returns
 unfolding placesOf

@@ -1,8 +1,8 @@
 use native.Mathlib.Omega.{arith}
 use lib.Count.{ones-le}
-use Rattle.sent.proofs.Members.{ones-count}
-use Rattle.sent.proofs.member_count.Statement.{statement}
-use Rattle.sent.proofs.member_count.Tie as tie
+use Rattle.sent_queues.proofs.Members.{ones-count}
+use Rattle.sent_queues.proofs.member_count.Statement.{statement}
+use Rattle.sent_queues.proofs.member_count.Tie as tie
 
 cast-result : tie.Need-cast-result
 cast-result c = record { fits = omega (arith, ones-le 64 (c .args .m) (c .fits .m .fits)) }

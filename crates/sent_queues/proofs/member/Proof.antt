@@ -8,9 +8,9 @@ use Rattle.masks.specs.Mask.{has}
 use Rattle.find_first.specs.Next.{next}
 use Rattle.find_first.proofs.NextLaws.{next-in, next-from}
 use Rattle.protocol.specs.Home.{members}
-use Rattle.sent.proofs.Members.{from, search-start, turn-hit, turn-miss, end-none}
-use Rattle.sent.proofs.member.Statement.{statement}
-use Rattle.sent.proofs.member.Tie as tie
+use Rattle.sent_queues.proofs.Members.{from, search-start, turn-hit, turn-miss, end-none}
+use Rattle.sent_queues.proofs.member.Statement.{statement}
+use Rattle.sent_queues.proofs.member.Tie as tie
 
 abbrev Inv-loop : tie.InvT-loop
 Inv-loop m i left₀ t₀ left t = (getD (from m t) left 64 ≡ getD (members m 64) i 64) × (t < 64 → has m t ≡ true)
