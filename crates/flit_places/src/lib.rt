@@ -8,7 +8,7 @@ use flit_reading::Read;
 pub fn data_words(flits: &[u64]) -> &[u64]
     ensures { λ r. ⌜ now r ≡ dataOf (now (flits .entry)) ⌝ }
 {
-    let r = flit_reading::reading::read(flits);
+    let r = front_read::reading::read(flits);
     let start = r.start;
     let used = r.used;
     &flits[start..used]
@@ -19,9 +19,9 @@ pub fn read_at(flits: &[u64], at: usize) -> Read
     ensures { λ r. ⌜ r ≡ readOf (drop at (now (flits .entry))) ⌝ }
 {
     if at < flits.len() {
-        flit_reading::reading::read(&flits[at..])
+        front_read::reading::read(&flits[at..])
     } else {
-        flit_reading::reading::read(&flits[..0])
+        front_read::reading::read(&flits[..0])
     }
 }
 

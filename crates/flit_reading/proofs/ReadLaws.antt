@@ -1,5 +1,5 @@
 -- What an accepted front message keeps, and that a refused one gives nothing. Assumes nothing.
-use mathlib.Core.Path.{_≡_, refl, sym, ap, subst}
+use mathlib.Core.Path.{_≡_, refl, sym, ap, _∙_, subst}
 use mathlib.Core.Logic.{_⊎_, ⊎-elim}
 use mathlib.Core.Bool.{Bool, true, false, cond, _&&_}
 use mathlib.Core.List.{List, [], _∷_}
@@ -7,16 +7,18 @@ use Prim.Native.Nat.{ℕ, zero, suc, _+_, _-_, _≤_, _<_}
 use native.Mathlib.Nat.{le-refl, le-of-eq}
 use native.Mathlib.Omega.{arith}
 use lib.Dec.{T, ltb, eqb}
-use lib.ListN.{length, take, drop, length-take, length-drop}
+use lib.ListN.{length, getD, take, drop, length-take, length-drop}
 use lib.Seq.{take-all}
 use borrow.Author.Tests.{ltb-true, eqb-true, eqb-false, ne-eqb, eq-eqb}
-use Rattle.flit_words.specs.Words.{lengthOf}
-use Rattle.flit_table.specs.Table.{extra}
+use Rattle.flit_words.specs.declared.Header.{Header}
+use Rattle.flit_words.specs.Words.{lengthOf, opcodeOf, headerOf}
+use Rattle.flit_table.specs.declared.Row.{Row}
+use Rattle.flit_table.specs.Table.{rowOf, extra}
 use Rattle.flit_rules.specs.Rules.{known, lengthAllowed, portsListed, reservedClear, allowed}
 use Rattle.flit_table.proofs.Tests.{and-left, and-right}
 use Rattle.flit_rules.proofs.TableLaws.{row-lengths}
 use Rattle.flit_reading.specs.declared.Read.{Read}
-use Rattle.flit_reading.specs.Reading.{lowest, refusals, flit1, rowAt, flit2, flit3, headerAt, readRefusal, accepted, refused, readOf, dataOf}
+use Rattle.flit_reading.specs.Reading.{lowest, refusals, flit1, rowAt, flit2, flit3, headerAt, readRefusal, accepted, refused, answer, readOf, dataOf}
 
 -- ---- the lowest number is 0 exactly where every test holds
 
@@ -92,6 +94,9 @@ read-cases P s yes′ no′ = go (eqb (readRefusal s) 0) refl
     go true e = let z = eqb-true (readRefusal s) 0 e in subst P (sym (read-accepted s z)) (yes′ z)
     go false e = let z = eqb-false (readRefusal s) 0 e in subst P (sym (read-refused s z)) (no′ z)
 
+pub refusal-of : (s : List ℕ) → readOf s .refusal ≡ readRefusal s
+refusal-of s = read-cases (λ r. r .refusal ≡ readRefusal s) s (λ e. sym e) (λ e. refl)
+
 pub start-le-used : (s : List ℕ) → readOf s .start ≤ readOf s .used
 start-le-used s =
     read-cases (λ r. r .start ≤ r .used) s
@@ -139,3 +144,36 @@ data-none = refl
 -- an accepted message uses a flit at least
 pub used-pos : (s : List ℕ) → readRefusal s ≡ 0 → 0 < readOf s .used
 used-pos s e = subst (λ (r : Read). 0 < r .used) (sym (read-accepted s e)) (omega arith)
+
+-- ---- the code's numbers, one after the other, are the definitions'
+
+pub refusal-done : (row : Row) (h : Header) (count f1 f2 f3 : ℕ) {len x n16 n15 n14 n13 n12 n11 n10 : ℕ} {k l p c a : Bool}
+    → len ≡ lengthOf f1 → x ≡ extra row → k ≡ known row → l ≡ lengthAllowed row len → p ≡ portsListed row h → c ≡ reservedClear row f1 f2 f3
+    → a ≡ allowed row (ltb x len) h → n16 ≡ cond a 0 16 → n15 ≡ cond c n16 15 → n14 ≡ cond p n15 14 → n13 ≡ cond (ltb len count) n14 13
+    → n12 ≡ cond l n13 12 → n11 ≡ cond k n12 11 → n10 ≡ cond (ltb 0 count) n11 10
+    → n10 ≡ lowest (refusals row h count f1 f2 f3)
+refusal-done row h count f1 f2 f3 len x k l p c a n16 n15 n14 n13 n12 n11 n10 =
+    let a′ = a ∙ (λ i. allowed row (ltb (x i) (len i)) h) in
+    let l′ = l ∙ ap (lengthAllowed row) len in
+    let from16 = n16 ∙ (λ i. cond (a′ i) 0 16) in
+    let from15 = n15 ∙ (λ i. cond (c i) (from16 i) 15) in
+    let from14 = n14 ∙ (λ i. cond (p i) (from15 i) 14) in
+    let from13 = n13 ∙ (λ i. cond (ltb (len i) count) (from14 i) 13) in
+    let from12 = n12 ∙ (λ i. cond (l′ i) (from13 i) 12) in
+    let from11 = n11 ∙ (λ i. cond (k i) (from12 i) 11) in
+    n10 ∙ ap (λ (n : ℕ). cond (ltb 0 count) n 10) from11
+
+pub read-done : (s : List ℕ) {f1 op g2 f2 g3 f3 n len x : ℕ} {row : Row} {h : Header} {r : Read}
+    → f1 ≡ flit1 s → op ≡ opcodeOf f1 → row ≡ rowOf op → g2 ≡ getD s 1 0 → f2 ≡ cond (row .three) g2 0 → g3 ≡ getD s 2 0 → f3 ≡ cond (row .three) g3 0
+    → h ≡ headerOf f1 f2 f3 → n ≡ lowest (refusals row h (length s) f1 f2 f3) → len ≡ lengthOf f1 → x ≡ extra row → r ≡ answer n h (len + 1) (x + 1)
+    → r ≡ readOf s
+unfolding readRefusal readOf
+read-done s f1 op row g2 f2 g3 f3 h n len x r =
+    let row′ = row ∙ ap rowOf (op ∙ ap opcodeOf f1) in
+    let f2′ = f2 ∙ (λ i. cond (row′ i .three) (g2 i) 0) in
+    let f3′ = f3 ∙ (λ i. cond (row′ i .three) (g3 i) 0) in
+    let h′ = h ∙ (λ i. headerOf (f1 i) (f2′ i) (f3′ i)) in
+    let n′ = n ∙ (λ i. lowest (refusals (row′ i) (h′ i) (length s) (f1 i) (f2′ i) (f3′ i))) in
+    let len′ = len ∙ ap lengthOf f1 in
+    let x′ = x ∙ ap extra row′ in
+    r ∙ (λ i. answer (n′ i) (h′ i) (len′ i + 1) (x′ i + 1))

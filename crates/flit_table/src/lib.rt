@@ -1,5 +1,4 @@
-// The table of types (01, 'Flit words').
-pub mod table;
+// The table of types (01, 'Flit words'): specs/Table. `table_entries` and `table_rows` are the code.
 
 // What the table allows a type.
 pub struct Row {

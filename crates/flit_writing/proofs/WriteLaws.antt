@@ -6,7 +6,7 @@ use Prim.Native.Nat.{ℕ, suc, _+_, _-_, _≤_, _<_}
 use native.Mathlib.Nat.{le-refl, le-of-eq, le-of-lt, not-suc-le-zero, le-of-suc-le-suc}
 use native.Mathlib.Numerals.{add-one}
 use native.Mathlib.Omega.{arith}
-use lib.Dec.{leb}
+use lib.Dec.{ltb, leb}
 use lib.ListN.{length, getD, set, take, drop, length-append, length-take, length-drop, drop-of-length-le}
 use lib.Seq.{drop-cons, set-at, take-suc, append-snoc, length-take-le, take-all, drop-at, take-at, drop-drop}
 use borrow.Author.Tests.{le-leb, lt-leb, leb-true, leb-false, ne-eqb}
@@ -16,6 +16,7 @@ use Rattle.flit_reading.specs.Reading.{lowest}
 use Rattle.flit_reading.proofs.ReadLaws.{holds, rest-part}
 use Rattle.flit_table.specs.declared.Row.{Row}
 use Rattle.flit_table.specs.Table.{rowOf, extra}
+use Rattle.flit_rules.specs.Rules.{known, lengthAllowed, portsListed, allowed}
 use Rattle.flit_words.specs.declared.Header.{Header}
 use Rattle.flit_words.specs.Words.{flit1Of, flit2Of, flit3Of}
 
@@ -110,6 +111,21 @@ two-pieces d a w x y e l {d1} {m} p q =
 pub header-length : (t : Bool) (h : Header) (n : ℕ) → length (headerFlits t h n) ≡ cond t 2 0 + 1
 header-length true h n = refl
 header-length false h n = refl
+
+-- ---- the code's numbers, one after the other, are the refusal
+
+pub refusal-done : (row : Row) (h : Header) (count room at : ℕ) {x n17 n16 n14 n12 n11 : ℕ} {k l p a i : Bool}
+    → x ≡ extra row → k ≡ known row → l ≡ lengthAllowed row (x + count) → p ≡ portsListed row h → a ≡ allowed row (ltb 0 count) h → i ≡ leb (at + (x + count + 1)) room
+    → n17 ≡ cond i 0 17 → n16 ≡ cond a n17 16 → n14 ≡ cond p n16 14 → n12 ≡ cond l n14 12 → n11 ≡ cond k n12 11
+    → n11 ≡ lowest (refusals row h count room at)
+refusal-done row h count room at x k l p a i n17 n16 n14 n12 n11 =
+    let l′ = l ∙ (λ j. lengthAllowed row (x j + count)) in
+    let i′ = i ∙ (λ j. leb (at + (x j + count + 1)) room) in
+    let from17 = n17 ∙ (λ j. cond (i′ j) 0 17) in
+    let from16 = n16 ∙ (λ j. cond (a j) (from17 j) 16) in
+    let from14 = n14 ∙ (λ j. cond (p j) (from16 j) 14) in
+    let from12 = n12 ∙ (λ j. cond (l′ j) (from14 j) 12) in
+    n11 ∙ (λ j. cond (k j) (from12 j) 11)
 
 -- ---- the public write, by the refusal number
 

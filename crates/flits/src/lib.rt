@@ -6,6 +6,6 @@ pub use flit_places::data_words;
 pub use flit_places::data_words_at;
 pub use flit_places::read_at;
 pub use flit_reading::Read;
-pub use flit_reading::reading;
 pub use flit_writing::Written;
-pub use flit_writing::writing;
+pub use front_read::reading;
+pub use place_write::writing;

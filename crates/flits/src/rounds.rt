@@ -2,7 +2,7 @@
 ghost use mathlib.Core.Path.{_≡_};
 ghost use lib.ListN.{length};
 ghost use Rattle.flit_writing.specs.Writing.{bufferOf};
-ghost use Rattle.flits.specs.Rounds.{copiedOf, copyBuffer, echoOf};
+ghost use Rattle.round_trips.specs.Rounds.{copiedOf, copyBuffer, echoOf};
 use flit_reading::Read;
 use flit_words::Header;
 use flit_writing::Written;
@@ -11,11 +11,11 @@ use flit_writing::Written;
 pub fn copy(flits: &[u64], buffer: &mut [u64], at: usize) -> Written
     ensures { λ r. ⌜ (r ≡ copiedOf (now (flits .entry)) (length (now (buffer .entry))) at) × (now (buffer .exit) ≡ copyBuffer (now (flits .entry)) (now (buffer .entry)) at) ⌝ }
 {
-    let front = flit_reading::reading::read(flits);
+    let front = front_read::reading::read(flits);
     if front.refusal == 0 {
         let h = front.header;
         let words = flit_places::data_words(flits);
-        flit_writing::writing::write(h, words, buffer, at)
+        place_write::writing::write(h, words, buffer, at)
     } else {
         Written {
             refusal: front.refusal,
@@ -28,10 +28,10 @@ pub fn copy(flits: &[u64], buffer: &mut [u64], at: usize) -> Written
 pub fn echo(h: Header, words: &[u64], buffer: &mut [u64], at: usize) -> Read
     ensures { λ r. ⌜ (r ≡ echoOf h (length (now (words .entry))) (length (now (buffer .entry))) at) × (now (buffer .exit) ≡ bufferOf h (now (words .entry)) (now (buffer .entry)) at) ⌝ }
 {
-    let done = flit_writing::writing::write(h, words, buffer, at);
+    let done = place_write::writing::write(h, words, buffer, at);
     if done.refusal == 0 {
         flit_places::read_at(buffer, at)
     } else {
-        flit_reading::reading::answer(done.refusal, h, 0, 0)
+        front_parts::answer(done.refusal, h, 0, 0)
     }
 }

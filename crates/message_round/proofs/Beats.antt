@@ -1,6 +1,6 @@
 -- 01's beats P1 to P10 hold. Assumes nothing.
 use Rattle.protocol.proofs.Beats.{beats-hold}
-use Rattle.flits.proofs.Examples.{p10}
+use Rattle.round_trips.proofs.Examples.{p10}
 use Rattle.message_round.specs.Beats.{P1-to-P10}
 
 pub beats : P1-to-P10

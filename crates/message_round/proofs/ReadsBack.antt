@@ -10,7 +10,7 @@ use Rattle.flit_words.specs.declared.Header.{Header}
 use Rattle.flit_table.specs.Table.{rowOf, extra}
 use Rattle.flit_reading.specs.Reading.{readOf, dataOf, accepted}
 use Rattle.flit_writing.specs.Writing.{writeRefusal, writtenOf, bufferOf, flitsOf, over}
-use Rattle.flits.proofs.RoundTrip.{write-read, write-data}
+use Rattle.round_trips.proofs.RoundTrip.{write-read, write-data}
 use Rattle.words.specs.declared.Row.{Row}
 use Rattle.message_fields.specs.Fields.{headerOf, fieldsOf, wordsOf, kept, Carried}
 use Rattle.message_round.proofs.Accepted as the

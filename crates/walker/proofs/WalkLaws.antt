@@ -8,8 +8,7 @@ use lib.ListN.{length, drop, length-drop}
 use borrow.Author.Tests.{eq-eqb, ne-eqb}
 use Rattle.flit_reading.specs.declared.Read.{Read}
 use Rattle.flit_reading.specs.Reading.{readOf, readRefusal}
-use Rattle.flit_reading.proofs.ReadLaws.{used-le, used-pos}
-use Rattle.flits.proofs.RoundCalls.{refusal-of}
+use Rattle.flit_reading.proofs.ReadLaws.{refusal-of, used-le, used-pos}
 use Rattle.walker.specs.Walk.{walkFrom, walkOf}
 
 -- an accepted message uses a flit at least, and lies inside

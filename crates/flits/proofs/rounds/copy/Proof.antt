@@ -1,4 +1,4 @@
-use Rattle.flits.proofs.RoundCalls.{copy-done, copy-refused}
+use Rattle.round_trips.proofs.RoundCalls.{copy-done, copy-refused}
 use borrow.Author.Needs.{needs}
 use Rattle.flits.proofs.rounds.copy.Statement.{statement}
 use Rattle.flits.proofs.rounds.copy.Tie as tie

@@ -1,4 +1,4 @@
-use Rattle.flits.proofs.RoundCalls.{echo-done, echo-refused}
+use Rattle.round_trips.proofs.RoundCalls.{echo-done, echo-refused}
 use borrow.Author.Needs.{needs}
 use Rattle.flits.proofs.rounds.echo.Statement.{statement}
 use Rattle.flits.proofs.rounds.echo.Tie as tie

@@ -1,0 +1,2 @@
+// The front message of lent flits, read.
+pub mod reading;

@@ -1,0 +1,2 @@
+// A message written at a place of a lent buffer.
+pub mod writing;

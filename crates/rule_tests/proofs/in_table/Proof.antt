@@ -1,0 +1,9 @@
+use mathlib.Core.Path.{refl}
+use Rattle.rule_tests.proofs.in_table.Statement.{statement}
+use Rattle.rule_tests.proofs.in_table.Tie as tie
+
+returns : tie.Need-returns
+returns c = refl
+
+pub in-table-spec : {M : Type 1} → statement M
+in-table-spec = tie.close (tie.spec returns)

@@ -1,0 +1,9 @@
+use mathlib.Core.Path.{refl}
+use Rattle.rule_tests.proofs.length_allowed.Statement.{statement}
+use Rattle.rule_tests.proofs.length_allowed.Tie as tie
+
+returns : tie.Need-returns
+returns c = refl
+
+pub length-allowed-spec : {M : Type 1} → statement M
+length-allowed-spec = tie.close (tie.spec returns)
