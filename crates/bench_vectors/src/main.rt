@@ -4,25 +4,14 @@
 //     c CASE ROOM CALL TILE WORD VALUE                  a call on the first ROOM words; CALL is the tag that jobs give it
 //     s CASE ROOM TILES MEMORY.. (8)                    a start on the first ROOM words
 // Any other line is a remark. A call prints: case; well formed before it; refusal, kind, value, sent, tiles; each changed place.
-use bench::Answer;
+ghost use mathlib.Core.Path.{_≡_};
+ghost use lib.ListN.{length};
+use answers::Answer;
+use case_lines::at;
+use case_lines::decimal;
+use case_lines::named;
+use case_lines::text;
 use libc::STDOUT_FILENO;
-
-// The line read so far: its first byte, the numbers that are whole, and the one that is being read.
-struct Line {
-    command: u8,
-    count: usize,
-    value: u64,
-    begun: bool,
-}
-
-fn text(s: &[u8]) {
-    io::write_all(STDOUT_FILENO, s);
-}
-
-fn decimal(n: u64) {
-    text(b" ");
-    io::print_decimal(STDOUT_FILENO, n);
-}
 
 fn changed(place: usize, word: u64) {
     decimal(place as u64);
@@ -54,13 +43,8 @@ fn compare(before: &mut [u64], w: &[u64]) {
     text(b"\n");
 }
 
-// The number at i of a line, 0 past its end.
-fn at(s: &[u64], i: usize) -> u64 {
-    if i < s.len() { s[i] } else { 0 }
-}
-
 fn formed(w: &[u64]) {
-    let ok = bench::well_formed(w);
+    let ok = bench_words::well_formed(w);
     text(b" formed");
     if ok {
         decimal(1);
@@ -70,29 +54,18 @@ fn formed(w: &[u64]) {
 }
 
 fn show(a: Answer) {
-    text(b" refusal");
-    decimal(a.refusal);
-    text(b" kind");
-    decimal(a.kind);
-    text(b" value");
-    decimal(a.value);
-    text(b" sent");
-    decimal(a.sent);
-    text(b" tiles");
-    decimal(a.tiles);
+    named(b" refusal", a.refusal);
+    named(b" kind", a.kind);
+    named(b" value", a.value);
+    named(b" sent", a.sent);
+    named(b" tiles", a.tiles);
 }
 
 fn call(w: &mut [u64], tag: u64, tile: u64, word: u64, value: u64) -> Answer {
-    match tag {
-        16 => bench::load(w, tile, word),
-        17 => bench::store(w, tile, word, value),
-        18 => bench::evict(w, tile),
-        19 => bench::taking(w),
-        20 => bench::to_tile(w, tile),
-        21 => bench::from_tile(w, tile),
-        22 => bench::memory_step(w),
-        23 => bench::memory_ack(w),
-        _ => bench::home_eviction(w),
+    if call_tags::is_tile(tag) {
+        tile_calls::at_tile(w, tag, tile, word, value)
+    } else {
+        home_calls::at_home(w, tag, tile)
     }
 }
 
@@ -114,7 +87,7 @@ fn start_on(w: &mut [u64], s: &[u64]) {
         at(s, 9),
         at(s, 10),
     ];
-    let a = bench::start(w, at(s, 2), memory);
+    let a = bench_start::start(w, at(s, 2), memory);
     show(a);
 }
 
@@ -157,93 +130,24 @@ fn run(command: u8, s: &[u64], w: &mut [u64], before: &mut [u64]) {
     }
 }
 
-// The value of a decimal digit, 10 of any other byte.
-fn digit(b: u8) -> u64 {
-    match b {
-        48..=57 => (b - 48) as u64,
-        _ => 10,
-    }
-}
-
-fn ten_times(n: u64, d: u64) -> u64 {
-    let twice = n << 1;
-    let ten = std::num::wrapping_add_u64(n << 3, twice);
-    std::num::wrapping_add_u64(ten, d)
-}
-
-fn blank(command: u8) -> Line {
-    Line {
-        command: command,
-        count: 0,
-        value: 0,
-        begun: false,
-    }
-}
-
-// The number that was being read, if any, is whole.
-fn finish(line: Line, numbers: &mut [u64]) -> Line {
-    let mut count = line.count;
-    if line.begun {
-        if count < numbers.len() {
-            numbers[count] = line.value;
-            count += 1;
-        }
-    }
-    Line {
-        command: line.command,
-        count: count,
-        value: 0,
-        begun: false,
-    }
-}
-
-fn end_of_line(line: Line, numbers: &mut [u64], w: &mut [u64], before: &mut [u64]) {
-    let whole = finish(line, numbers);
-    let count = whole.count;
-    if count <= numbers.len() {
-        run(whole.command, &numbers[..count], w, before);
-    }
-}
-
-// One byte more of a line.
-fn next(line: Line, b: u8, numbers: &mut [u64]) -> Line {
-    if line.command == 0 {
-        blank(b)
-    } else {
-        let d = digit(b);
-        if d < 10 {
-            Line {
-                command: line.command,
-                count: line.count,
-                value: ten_times(line.value, d),
-                begun: true,
-            }
-        } else {
-            finish(line, numbers)
-        }
-    }
-}
-
-fn byte(line: Line, b: u8, numbers: &mut [u64], w: &mut [u64], before: &mut [u64]) -> Line {
-    if b == b'\n' {
-        end_of_line(line, numbers, w, before);
-        blank(0)
-    } else {
-        next(line, b, numbers)
-    }
-}
-
 fn cases(input: &[u8], numbers: &mut [u64], w: &mut [u64], before: &mut [u64]) {
-    let mut line = blank(0);
-    let mut i = 0;
-    while i < input.len() {
-        line = byte(line, input[i], numbers, w, before);
-        i += 1;
+    let mut from = 0;
+    while from < input.len() {
+        let line = case_lines::line_at(input, from, 10, numbers);
+        let count = line.count;
+        run(line.command, &numbers[..count], w, before);
+        from = line.next;
     }
+}
+
+fn input_buffer() -> [u8; 393216]
+    ensures { λ r. ⌜ 393216 ≡ length r ⌝ }
+{
+    [0; 393216]
 }
 
 fn main() {
-    let mut input = [0u8; 393216];
+    let mut input = input_buffer();
     let mut numbers = [0u64; 64];
     let mut w = [0u64; 5600];
     let mut before = [0u64; 5600];

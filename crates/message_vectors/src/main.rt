@@ -1,37 +1,17 @@
 // Writes the flits of a message of each kind, a line each: the four of document 01's listing, then one of each type with tile 13 and
 // the last line of the address space, then what is refused, in lower-case
 // hexadecimal digits. tests/model writes the same lines from its own reading of the paper.
-use libc::STDOUT_FILENO;
+use case_lines::text;
 use words::Row;
-
-fn text(s: &[u8]) {
-    io::write_all(STDOUT_FILENO, s);
-}
-
-fn flit(s: &[u64], i: usize) {
-    text(b" ");
-    if i < s.len() {
-        io::print_hex(STDOUT_FILENO, s[i], 16);
-    }
-}
-
-fn flits_of(s: &[u64], n: usize) {
-    let mut i = 0;
-    while i < n {
-        flit(s, i);
-        i += 1;
-    }
-}
 
 fn show(line: u64, queue: u64, tile: u64, m: Row) {
     let mut buffer = [0u64; 11];
     let done = message_flits::write_message(&mut buffer, 0, line, queue, tile, m);
     if done.refusal == 0 {
         text(b">");
-        flits_of(&buffer, done.flits);
+        case_lines::words(&buffer, done.flits);
     } else {
-        text(b"refused ");
-        io::print_decimal(STDOUT_FILENO, done.refusal);
+        case_lines::named(b"refused", done.refusal);
     }
     text(b"\n");
 }

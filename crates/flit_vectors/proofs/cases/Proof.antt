@@ -1,15 +1,19 @@
-use Prim.Native.Nat.{_≤_, _-_}
+use Prim.Native.Nat.{_-_}
 use mathlib.Core.Path.{_≡_}
+use native.Mathlib.Omega.{arith}
 use borrow.Author.Needs.{needs}
-use lib.ListN.{length}
+use lib.ListN.{length, length-take}
 use Rattle.flit_vectors.proofs.cases.Statement.{statement}
 use Rattle.flit_vectors.proofs.cases.Tie as tie
 
 abbrev Inv-loop : tie.InvT-loop
-Inv-loop input numbers₀ line₀ i₀ numbers line i = (i ≤ length input) × (length numbers ≡ length numbers₀)
+Inv-loop input numbers₀ from₀ numbers from = length numbers ≡ length numbers₀
 
 abbrev μ-loop : tie.MeasureT-loop
-μ-loop input numbers₀ line₀ i₀ numbers line i = length input - i
+μ-loop input numbers₀ from₀ numbers from = length input - from
+
+slice-aggregate-run : tie.Need-slice-aggregate-run Inv-loop μ-loop
+slice-aggregate-run c = simp length-take (omega arith)
 
 pub cases-spec : {M : Type 1} → statement M
 cases-spec =
@@ -18,9 +22,10 @@ cases-spec =
     Inv-loop
     μ-loop
     (λ c. search needs)
-    (λ c. search needs)
     (λ c κs. search needs)
     (λ c. search needs)
+    slice-aggregate-run
+    (λ c κs. search needs)
     (λ c. search needs)
     (λ c. search needs)
     (λ c. search needs)

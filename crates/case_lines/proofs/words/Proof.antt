@@ -1,7 +1,7 @@
 use Prim.Native.Nat.{_≤_, _-_}
 use borrow.Author.Needs.{needs}
-use Rattle.message_vectors.proofs.flits_of.Statement.{statement}
-use Rattle.message_vectors.proofs.flits_of.Tie as tie
+use Rattle.case_lines.proofs.words.Statement.{statement}
+use Rattle.case_lines.proofs.words.Tie as tie
 
 abbrev Inv-loop : tie.InvT-loop
 Inv-loop s n i₀ i = i ≤ n
@@ -9,7 +9,7 @@ Inv-loop s n i₀ i = i ≤ n
 abbrev μ-loop : tie.MeasureT-loop
 μ-loop s n i₀ i = n - i
 
-pub flits-of-spec : {M : Type 1} → statement M
-flits-of-spec =
+pub words-spec : {M : Type 1} → statement M
+words-spec =
     tie.close
     (tie.spec Inv-loop μ-loop (λ c. search needs) (λ c κs. search needs) (λ c. search needs) (λ c. search needs) (λ c. search needs) (λ c. search needs))
