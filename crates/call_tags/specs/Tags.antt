@@ -3,8 +3,6 @@ use Prim.Native.Nat.{ℕ}
 use mathlib.Core.Bool.{Bool, cond, _||_}
 use lib.Dec.{eqb}
 use Rattle.protocol.specs.Parts.{Call, load, store, evict, taking, toTile, fromTile, memoryStep, memoryAck, homeEviction}
-use Rattle.call_tags.specs.declared.TileArgs.{TileArgs}
-use Rattle.call_tags.specs.declared.HomeArgs.{HomeArgs}
 
 -- 16 load, 17 store, 18 evict, 19 taking, 20 to tile, 21 from tile, 22 memory step, 23 memory ack, 24 home eviction. No accepted job has a
 -- call with another tag; it would count as 24.
@@ -30,10 +28,3 @@ tileCall tag t w v = cond (eqb tag 16) (load t w) (cond (eqb tag 17) (store t w 
 -- and at the home: 19, 21, 22, 23, else 24
 unfoldable pub homeCall : ℕ → ℕ → Call
 homeCall tag t = cond (eqb tag 19) taking (cond (eqb tag 21) (fromTile t) (cond (eqb tag 22) memoryStep (cond (eqb tag 23) memoryAck homeEviction)))
-
--- the call that its numbers stand for
-abbrev pub atTile : TileArgs → Call
-atTile a = tileCall (a .tag) (a .tile) (a .word) (a .value)
-
-abbrev pub atHome : HomeArgs → Call
-atHome a = homeCall (a .tag) (a .tile)

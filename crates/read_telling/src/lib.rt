@@ -1,6 +1,7 @@
 // What a read of flits answers, put into lent words.
 ghost use mathlib.Core.Path.{_≡_};
-ghost use Rattle.telling.specs.Told.{told, readWords};
+ghost use Rattle.telling.specs.Told.{told};
+ghost use Rattle.read_telling.specs.Answered.{readWords};
 use flit_reading::Read;
 use telling::tell;
 

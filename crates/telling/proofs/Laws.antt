@@ -1,11 +1,23 @@
 -- What is put into lent words, where it fits and where not. Assumes nothing.
 use Prim.Native.Nat.{ℕ, _+_, _≤_, _<_}
-use mathlib.Core.Path.{_≡_, ap, _∙_}
+use mathlib.Core.Path.{_≡_, ap, _∙_, subst}
 use mathlib.Core.List.{List, _++_}
-use lib.ListN.{length, drop}
+use native.Mathlib.Nat.{zero-add}
+use native.Mathlib.Omega.{arith}
+use lib.ListN.{length, drop, set, getD}
+use lib.Seq.{paste}
 use borrow.Author.Tests.{le-leb, lt-leb}
-use Rattle.answers.specs.declared.Answer.{Answer}
-use Rattle.telling.specs.Told.{told, answerWords}
+use Rattle.words.specs.Blocks.{over}
+use Rattle.words.proofs.Over.{write-turn, write-end}
+use Rattle.telling.specs.Told.{told}
+
+-- a turn of the loop that copies to the start, and its end
+pub copy-turn : (l m d : List ℕ) (i : ℕ) → i < length d → i < length l → m ≡ paste l 0 d i → set m i (getD d i 0) ≡ paste l 0 d (i + 1)
+copy-turn l m d i h k e = subst (λ (j : ℕ). set m j (getD d i 0) ≡ paste l 0 d (i + 1)) (zero-add i) (write-turn l m d 0 i h (omega arith) e)
+
+pub copy-end : (l m d : List ℕ) (i : ℕ) → i ≡ length d → m ≡ paste l 0 d i → m ≡ d ++ drop (length d) l
+unfolding over
+copy-end l m d i k e = write-end l m d 0 i k e ∙ ap (λ (j : ℕ). d ++ drop j l) (zero-add (length d))
 
 pub told-fits : (l vs : List ℕ) → length vs ≤ length l → vs ++ drop (length vs) l ≡ told l vs
 unfolding told
@@ -25,7 +37,3 @@ module _ {A : Type 0} (number : A → ℕ) (words : A → List ℕ) where
   pub done : (out : List ℕ) {out′ : List ℕ} {r : ℕ} {a b : A} {P : Type 0} → (a ≡ b) × P → (r ≡ number a) × (out′ ≡ told out (words a))
       → (r ≡ number b) × (P × (out′ ≡ told out (words b)))
   done out (e, p) (n, t) = (n ∙ ap number e, (p, t ∙ ap (λ (x : A). told out (words x)) e))
-
-pub called : (out : List ℕ) {out′ : List ℕ} {r : ℕ} {a b : Answer} {P : Type 0} → (a ≡ b) × P → (r ≡ a .refusal) × (out′ ≡ told out (answerWords a))
-    → (r ≡ b .refusal) × (P × (out′ ≡ told out (answerWords b)))
-called = done (λ (a : Answer). a .refusal) answerWords

@@ -1,4 +1,6 @@
-use mathlib.Core.Path.{refl}
+use mathlib.Core.Path.{_≡_, refl, _∙_}
+use native.Mathlib.Nat.{le-of-eq}
+use lib.Seq.{take-all}
 use borrow.Author.Tests.{eq-eqb, ne-eqb}
 use Rattle.calls.specs.Calls.{answerOf, wordsStarted}
 use Rattle.given.specs.Given.{startFrom}
@@ -8,7 +10,11 @@ use Rattle.given.proofs.start_from.Tie as tie
 
 returns : tie.Need-returns
 unfolding startFrom
-returns c = simp (eq-eqb _ _ (c .before .before .before .before .before .if1 .taken), ← c .before .before .before .eight .ensures) (c .before .before .start .ensures)
+returns c =
+    let mem = c .before .before .before .before .before .before .before .before .args .memory .now in
+    let full = c .before .before .before .before .before .if1 .taken in
+    let same : c .before .before .before .read-eight .result ≡ mem = c .before .before .before .read-eight .ensures ∙ take-all 8 mem (le-of-eq full) in
+    simp (eq-eqb _ _ full, ← same) (c .before .before .start .ensures)
 
 returns-2 : tie.Need-returns-2
 unfolding startFrom answerOf wordsStarted

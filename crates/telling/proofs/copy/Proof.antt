@@ -1,15 +1,15 @@
 use mathlib.Core.Path.{_≡_, ap, _∙_}
-use mathlib.Core.List.{List, _++_}
-use Prim.Native.Nat.{ℕ, _≤_, _-_}
+use Prim.Native.Nat.{_≤_, _-_}
 use native.Mathlib.Omega.{arith}
 use borrow.Author.Needs.{needs}
-use lib.ListN.{length, take, drop, set, getD}
-use Rattle.flit_writing.proofs.WriteLaws.{copy-more, copy-length, copy-all}
+use lib.ListN.{length}
+use lib.Seq.{paste, length-paste}
+use Rattle.telling.proofs.Laws.{copy-turn, copy-end}
 use Rattle.telling.proofs.copy.Statement.{statement}
 use Rattle.telling.proofs.copy.Tie as tie
 
 abbrev Inv-loop : tie.InvT-loop
-Inv-loop out₀ vs i₀ out i = (i ≤ length vs) × (out ≡ take i vs ++ drop i out₀)
+Inv-loop out₀ vs i₀ out i = (i ≤ length vs) × (out ≡ paste out₀ 0 vs i)
 
 abbrev μ-loop : tie.MeasureT-loop
 μ-loop out₀ vs i₀ out i = length vs - i
@@ -18,29 +18,25 @@ slice-write-out : tie.Need-slice-write-out Inv-loop μ-loop
 slice-write-out c =
     let s = c .before .before .before in
     let l = c .before .before .loop in
-    rw (l .inv .1) (rw (copy-length (s .args .out .now) (s .args .vs .now) (l .i) (omega arith) (omega arith)) (omega arith))
+    rw (l .inv .1) (rw (length-paste (s .args .out .now) 0 (s .args .vs .now) (l .i) (omega arith) (omega arith)) (omega arith))
 
 loop-again : tie.Need-loop-again Inv-loop μ-loop
 loop-again c =
     let s = c .before .before .before in
-    let l = c .before .before .loop in (
-      omega arith,
-      ap (λ (r : List ℕ). set r (l .i) (getD (s .args .vs .now) (l .i) 0)) (l .inv .1)
-          ∙ copy-more (s .args .out .now) (s .args .vs .now) (l .i) (omega arith) (omega arith),
-    )
+    let l = c .before .before .loop in
+    (omega arith, copy-turn (s .args .out .now) (l .out) (s .args .vs .now) (l .i) (omega arith) (omega arith) (l .inv .1))
 
 same-length : tie.Need-same-length Inv-loop μ-loop
 same-length c =
     let s = c .before .before in
     let l = c .before .loop in
-    ap length (l .inv .1) ∙ copy-length (s .args .out .now) (s .args .vs .now) (l .i) (omega arith) (omega arith)
+    ap length (l .inv .1) ∙ length-paste (s .args .out .now) 0 (s .args .vs .now) (l .i) (omega arith) (omega arith)
 
 returns : tie.Need-returns Inv-loop μ-loop
 returns c =
     let s = c .before .before in
     let l = c .before .loop in
-    let e : l .i ≡ length (s .args .vs .now) = omega arith in
-    l .inv .1 ∙ copy-all (s .args .out .now) (s .args .vs .now) (l .i) e
+    copy-end (s .args .out .now) (l .out) (s .args .vs .now) (l .i) (omega arith) (l .inv .1)
 
 pub copy-spec : {M : Type 1} → statement M
 copy-spec =
