@@ -1,8 +1,7 @@
-// All of it for programs in other languages. Numbers, and lent words as pointer and length, go in; each function returns the refusal number
-// and tells the whole answer. include/duzhmarqi.h says the same for C. The work is done below; which call, which place and what is told
-// are promises of tile_args, home_args, the given_ and the telling crates.
+// All of it for programs in other languages, but for a job's calls (job_exports). Numbers, and lent words as pointer and length, go in; each
+// function returns the refusal number and tells the whole answer. include/duzhmarqi.h says the same for C. Which call, which place and what
+// is told are promises of the crates just below.
 ghost use mathlib.Core.Path.{_≡_};
-ghost use mathlib.Core.List.{_∷_, []};
 ghost use lib.ListN.{length, drop};
 ghost use Rattle.protocol.specs.Parts.{load, store, evict, taking, toTile, fromTile, memoryStep, memoryAck, homeEviction};
 ghost use Rattle.calls.specs.Calls.{wellFormed, stepOn, answerOf, wordsAfter, wordsStarted};
@@ -18,16 +17,11 @@ ghost use Rattle.flit_reading.specs.Reading.{readOf};
 ghost use Rattle.read_telling.specs.Answered.{readWords};
 ghost use Rattle.given_message.specs.Given.{writtenFrom, bufferFrom, writtenWords};
 ghost use Rattle.job_check.specs.Check.{checkJob};
-ghost use Rattle.job_format.specs.Job.{jobCallAt};
 ghost use Rattle.job_telling.specs.Answered.{checkedWords};
-ghost use Rattle.answer_lines.specs.Pieces.{buffersAfter, placesAfter};
-ghost use Rattle.job_rules.specs.Listing.{callLines};
-ghost use Rattle.exports.specs.Given.{callIn};
 use answer_telling::tell_answer;
 use given_message::tell_written;
 use home_args::HomeArgs;
 use job_telling::tell_checked;
-use job_telling::tell_made;
 use tile_args::TileArgs;
 
 // ---- the calls on a bench: each tells refusal, kind, value, `sent`, `tiles` (docs/LAYOUT.md)
@@ -224,31 +218,4 @@ pub extern "C" fn duzh_check_job(job: &[u8], out: &mut [u64]) -> u64
 {
     let a = job_format::check_job(job);
     tell_checked(out, a)
-}
-
-// ---- the calls of a job made one by one, with their lines of the listing
-
-// Makes the call that stands at a place of a job (80 for the first) on the bench in the words, and writes its lines of the listing, as
-// call number `number`, at place p of the text. Returns the call's refusal number. Tells the place behind the lines, which is past the
-// text's end where they do not all fit, and the place of the next call.
-#[no_mangle]
-pub extern "C" fn duzh_run_call(
-    w: &mut [u64],
-    job: &[u8],
-    at: usize,
-    number: u64,
-    line: u64,
-    text: &mut [u8],
-    p: usize,
-    out: &mut [u64],
-) -> u64
-    ensures refusal { λ r. ⌜ r ≡ answerOf (stepOn (now (w .entry)) (callIn (now (job .entry)) at)) .refusal ⌝ }
-    ensures words { λ _. ⌜ now (w .exit) ≡ wordsAfter (now (w .entry)) (stepOn (now (w .entry)) (callIn (now (job .entry)) at)) ⌝ }
-    ensures text { λ _. ⌜ now (text .exit) ≡ buffersAfter (now (text .entry)) p (callLines line number (callIn (now (job .entry)) at) (now (w .entry))) ⌝ }
-    ensures told { λ _. ⌜ now (out .exit) ≡ told (now (out .entry)) (placesAfter (now (text .entry)) p (callLines line number (callIn (now (job .entry)) at) (now (w .entry))) ∷ jobCallAt (now (job .entry)) at .next ∷ []) ⌝ }
-{
-    let c = job_telling::call_in(job, at);
-    let a = jobs::run_call(w, c);
-    let place = job_lines::answer_lines(text, p, w, line, number, a);
-    tell_made(out, place, c, a)
 }

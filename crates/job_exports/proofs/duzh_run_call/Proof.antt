@@ -1,7 +1,7 @@
-use Rattle.exports.proofs.Laws.{ran}
+use Rattle.job_exports.proofs.Laws.{ran}
 use borrow.Author.Needs.{needs}
-use Rattle.exports.proofs.duzh_run_call.Statement.{statement}
-use Rattle.exports.proofs.duzh_run_call.Tie as tie
+use Rattle.job_exports.proofs.duzh_run_call.Statement.{statement}
+use Rattle.job_exports.proofs.duzh_run_call.Tie as tie
 
 returns : tie.Need-returns
 returns c =
