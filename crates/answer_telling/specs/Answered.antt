@@ -1,12 +1,7 @@
 -- What a bench answers, as words.
 use Prim.Native.Nat.{ℕ}
-use mathlib.Core.Bool.{Bool, cond}
 use mathlib.Core.List.{List, [], _∷_}
 use Rattle.answers.specs.declared.Answer.{Answer}
 
 abbrev pub answerWords : Answer → List ℕ
 answerWords a = a .refusal ∷ a .kind ∷ a .value ∷ a .sent ∷ a .tiles ∷ []
-
--- true is 1, false is 0
-abbrev pub bit : Bool → ℕ
-bit b = cond b 1 0

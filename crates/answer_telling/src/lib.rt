@@ -1,7 +1,7 @@
-// What a bench answers, as words: an answer's five, and a truth value as a number.
+// What a bench answers, put into lent words.
 ghost use mathlib.Core.Path.{_≡_};
 ghost use Rattle.telling.specs.Told.{told};
-ghost use Rattle.answer_telling.specs.Answered.{answerWords, bit};
+ghost use Rattle.answer_telling.specs.Answered.{answerWords};
 use answers::Answer;
 use telling::tell;
 
@@ -14,10 +14,4 @@ pub fn tell_answer(out: &mut [u64], a: Answer) -> u64
     let vs = [a.refusal, a.kind, a.value, a.sent, a.tiles];
     tell(out, &vs);
     refusal
-}
-
-pub fn bit(b: bool) -> u64
-    ensures { λ r. ⌜ r ≡ bit b ⌝ }
-{
-    if b { 1 } else { 0 }
 }

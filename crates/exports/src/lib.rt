@@ -9,17 +9,19 @@ ghost use Rattle.tile_args.specs.Args.{atTile};
 ghost use Rattle.home_args.specs.Args.{atHome};
 ghost use Rattle.given.specs.Given.{startFrom};
 ghost use Rattle.telling.specs.Told.{told};
-ghost use Rattle.answer_telling.specs.Answered.{answerWords, bit};
+ghost use Rattle.answer_telling.specs.Answered.{answerWords};
+ghost use Rattle.returning.specs.Returned.{bit};
 ghost use Rattle.sent.specs.Places.{placesOf};
 ghost use Rattle.messages.specs.Rows.{messageOf};
 ghost use Rattle.sent_flits.specs.Given.{sentWritten, sentBuffer};
 ghost use Rattle.flit_reading.specs.Reading.{readOf};
 ghost use Rattle.read_telling.specs.Answered.{readWords};
-ghost use Rattle.given_message.specs.Given.{writtenFrom, bufferFrom, writtenWords};
+ghost use Rattle.given_message.specs.Given.{writtenFrom, bufferFrom};
 ghost use Rattle.job_check.specs.Check.{checkJob};
 ghost use Rattle.job_telling.specs.Answered.{checkedWords};
+ghost use Rattle.exports.specs.Answered.{writtenWords};
 use answer_telling::tell_answer;
-use given_message::tell_written;
+use flit_writing::Written;
 use home_args::HomeArgs;
 use job_telling::tell_checked;
 use tile_args::TileArgs;
@@ -42,7 +44,7 @@ pub extern "C" fn duzh_start(w: &mut [u64], tiles: u64, memory: &[u64], out: &mu
 pub extern "C" fn duzh_well_formed(w: &[u64]) -> u64
     ensures { λ r. ⌜ r ≡ bit (wellFormed (now (w .entry))) ⌝ }
 {
-    answer_telling::bit(bench_words::well_formed(w))
+    returning::bit(bench_words::well_formed(w))
 }
 
 fn run_tile(w: &mut [u64], a: TileArgs, out: &mut [u64]) -> u64
@@ -157,7 +159,16 @@ pub extern "C" fn duzh_home_eviction(w: &mut [u64], out: &mut [u64]) -> u64
 pub extern "C" fn duzh_message_count(sent: u64, tiles: u64) -> u64
     ensures { λ r. ⌜ r ≡ length (placesOf sent tiles) ⌝ }
 {
-    sent_flits::count(sent, tiles)
+    returning::message_count(sent, tiles)
+}
+
+// The refusal number, which is returned too, and how many flits were written.
+fn tell_written(out: &mut [u64], a: Written) -> u64
+    ensures refusal { λ r. ⌜ r ≡ a .refusal ⌝ }
+    ensures told { λ _. ⌜ now (out .exit) ≡ told (now (out .entry)) (writtenWords a) ⌝ }
+{
+    telling::tell_two(out, a.refusal, a.flits);
+    a.refusal
 }
 
 // The flits of the i-th of them, from 0, written at a place of the buffer, of the line with this address. Tells the refusal number and

@@ -1,7 +1,7 @@
--- A message written from lent fields, and what that answers, as words.
+-- A message written from lent fields.
 use Prim.Native.Nat.{ℕ}
 use mathlib.Core.Bool.{cond}
-use mathlib.Core.List.{List, [], _∷_}
+use mathlib.Core.List.{List}
 use lib.Dec.{eqb}
 use lib.ListN.{length}
 use Rattle.flit_writing.specs.declared.Written.{Written}
@@ -14,7 +14,3 @@ writtenFrom fields count room at = cond (eqb (length fields) 18) (writtenOf (fie
 
 unfoldable pub bufferFrom : List ℕ → List ℕ → List ℕ → ℕ → List ℕ
 bufferFrom fields words b at = cond (eqb (length fields) 18) (bufferOf (fieldsFrom fields) words b at) b
-
--- refusal number, and how many flits were written
-abbrev pub writtenWords : Written → List ℕ
-writtenWords x = x .refusal ∷ x .flits ∷ []

@@ -1,11 +1,9 @@
-// A message written from lent fields, and what a write answers put into lent words.
+// A message written from lent fields.
 ghost use mathlib.Core.Path.{_≡_};
 ghost use lib.ListN.{length};
-ghost use Rattle.telling.specs.Told.{told};
-ghost use Rattle.given_message.specs.Given.{writtenFrom, bufferFrom, writtenWords};
+ghost use Rattle.given_message.specs.Given.{writtenFrom, bufferFrom};
 use flits::Written;
 use given_fields::fields_from;
-use telling::tell_two;
 
 fn refused(n: u64) -> Written
     ensures { λ r. ⌜ r ≡ record { refusal = n; flits = 0 } ⌝ }
@@ -26,13 +24,4 @@ pub fn write_from(buffer: &mut [u64], at: usize, fields: &[u64], words: &[u64]) 
     } else {
         refused(1)
     }
-}
-
-// The refusal number, which is returned too, and how many flits were written.
-pub fn tell_written(out: &mut [u64], a: Written) -> u64
-    ensures refusal { λ r. ⌜ r ≡ a .refusal ⌝ }
-    ensures told { λ _. ⌜ now (out .exit) ≡ told (now (out .entry)) (writtenWords a) ⌝ }
-{
-    tell_two(out, a.refusal, a.flits);
-    a.refusal
 }

@@ -1,19 +1,11 @@
-// The messages that a call sent, out of the words that it left: how many there are, and the flits of each. `sent` and `tiles` are the last
-// two numbers of its answer.
+// The flits of a message that a call sent, out of the words that it left. `sent` and `tiles` are the last two numbers of its answer.
 ghost use mathlib.Core.Path.{_≡_};
 ghost use lib.ListN.{length};
-ghost use Rattle.sent.specs.Places.{placesOf};
 ghost use Rattle.messages.specs.Rows.{messageOf};
 ghost use Rattle.sent_flits.specs.Given.{sentWritten, sentBuffer};
 use flits::Written;
 
-pub fn count(sent: u64, tiles: u64) -> u64
-    ensures { λ r. ⌜ r ≡ length (placesOf sent tiles) ⌝ }
-{
-    messages::count(sent, tiles)
-}
-
-// The flits of the i-th of them, from 0, at a place of the buffer, of the line with this address.
+// Those of the i-th message, from 0, at a place of the buffer, of the line with this address.
 pub fn write_sent(
     w: &[u64],
     sent: u64,
