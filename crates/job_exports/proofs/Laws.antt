@@ -9,8 +9,8 @@ use Rattle.theorems.specs.Runs.{answerTo, afterCall}
 use Rattle.job_format.specs.declared.JobCall.{JobCall}
 use Rattle.job_format.specs.Job.{callOf}
 use Rattle.job_rules.specs.Run.{benchCall}
-use Rattle.answer_lines.specs.Pieces.{AllPlaced, buffersAfter, placesAfter}
-use Rattle.answer_lines.specs.Answer.{answerLines}
+use Rattle.answer_rules.specs.Pieces.{AllPlaced, buffersAfter, placesAfter}
+use Rattle.answer_rules.specs.Answer.{answerLines}
 use Rattle.job_rules.specs.Listing.{callLines}
 use Rattle.telling.specs.Told.{told}
 

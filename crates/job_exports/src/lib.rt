@@ -4,7 +4,7 @@ ghost use mathlib.Core.Path.{_≡_};
 ghost use mathlib.Core.List.{_∷_, []};
 ghost use Rattle.calls.specs.Calls.{stepOn, answerOf, wordsAfter};
 ghost use Rattle.job_format.specs.Job.{jobCallAt};
-ghost use Rattle.answer_lines.specs.Pieces.{buffersAfter, placesAfter};
+ghost use Rattle.answer_rules.specs.Pieces.{buffersAfter, placesAfter};
 ghost use Rattle.job_rules.specs.Listing.{callLines};
 ghost use Rattle.telling.specs.Told.{told};
 ghost use Rattle.job_exports.specs.Given.{callIn};
@@ -30,6 +30,6 @@ pub extern "C" fn duzh_run_call(
 {
     let c = job_telling::call_in(job, at);
     let a = jobs::run_call(w, c);
-    let place = job_lines::answer_lines(text, p, w, line, number, a);
+    let place = jobs::answer_lines(text, p, w, line, number, a);
     job_telling::tell_made(out, place, c, a)
 }

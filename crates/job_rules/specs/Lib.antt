@@ -1,2 +1,4 @@
 pub mod Run
 pub mod Listing
+pub mod Room
+pub mod Turns

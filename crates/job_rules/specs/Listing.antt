@@ -6,7 +6,7 @@ use Rattle.theorems.specs.Runs.{startedWords, answerTo, afterCall}
 use Rattle.lines.specs.Lines.{benchLine, endLine}
 use Rattle.job_format.specs.Job.{tilesOf, addressOf, memoryOf, callsOf}
 use Rattle.job_rules.specs.Run.{benchCall}
-use Rattle.answer_lines.specs.Answer.{answerLines}
+use Rattle.answer_rules.specs.Answer.{answerLines}
 
 -- the call c, number n, made on the words l
 unfoldable pub callLines : ℕ → ℕ → Call → List ℕ → List (List ℕ)

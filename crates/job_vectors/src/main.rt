@@ -3,18 +3,11 @@
 ghost use Prim.Native.Nat.{_+_, _≤_, _<_};
 ghost use lib.ListN.{length};
 use libc::STDIN_FILENO;
-use libc::STDOUT_FILENO;
-
-fn show(buf: &[u8], n: usize) {
-    if n <= buf.len() {
-        io::write_all(STDOUT_FILENO, &buf[..n]);
-    }
-}
 
 fn refused(number: u64, offset: usize) {
     let mut out = [0u8; 64];
     let p = listing::refused_line(&mut out, 0, number, offset as u64);
-    show(&out, p);
+    show::fitted(&out, p);
 }
 
 fn call(out: &mut [u8], p: usize, job: &[u8], at: usize, n: u64) -> usize {
@@ -54,7 +47,7 @@ fn accepted(job: &[u8]) {
     let p = listing::bench_line(&mut out, 0, tiles, address);
     let p = listing::message_line(&mut out, p, &words);
     let p = calls(&mut out, p, job);
-    show(&out, p);
+    show::fitted(&out, p);
 }
 
 fn one(job: &[u8]) {

@@ -5,8 +5,7 @@ use mathlib.Core.List.{[], _∷_, _++_}
 use native.Mathlib.Omega.{arith}
 use lib.ListN.{length, length-append}
 use Rattle.lines.specs.Lines.{hex12, decimal, numberThen, benchLine}
-use Rattle.lines.proofs.Digits.{length-digits}
-use Rattle.number_lines.proofs.NumberLaws.{then-length}
+use Rattle.lines.proofs.Digits.{length-digits, then-length}
 
 pub bench-length : (tiles address w : ℕ) → w ≡ length (decimal tiles) → w + 20 ≡ length (benchLine tiles address)
 unfolding benchLine

@@ -17,9 +17,9 @@ pub use refused_lines::refused_line;
 pub fn put_decimal(buf: &mut [u8], at: usize, n: u64) -> usize
     ensures { λ r. ⌜ Placed (now (buf .entry)) (now (buf .exit)) at r (decimal n) ⌝ }
 {
-    let w = lines::width(n);
+    let w = digits::width(n);
     if lists::room(buf.len(), at, w) {
-        lines::put_number(buf, at, n, w)
+        digits::put_number(buf, at, n, w)
     } else {
         buf.len() + 1
     }
@@ -29,7 +29,7 @@ pub fn put_hex16(buf: &mut [u8], at: usize, n: u64) -> usize
     ensures { λ r. ⌜ Placed (now (buf .entry)) (now (buf .exit)) at r (hex16 n) ⌝ }
 {
     if lists::room(buf.len(), at, 16) {
-        lines::put_hex(buf, at, 16, n)
+        digits::put_hex(buf, at, 16, n)
     } else {
         buf.len() + 1
     }
@@ -39,7 +39,7 @@ pub fn put_hex12(buf: &mut [u8], at: usize, n: u64) -> usize
     ensures { λ r. ⌜ Placed (now (buf .entry)) (now (buf .exit)) at r (hex12 n) ⌝ }
 {
     if lists::room(buf.len(), at, 12) {
-        lines::put_hex(buf, at, 12, n)
+        digits::put_hex(buf, at, 12, n)
     } else {
         buf.len() + 1
     }
@@ -52,7 +52,7 @@ fn put_address_end(buf: &mut [u8], at: usize, address: u64) -> usize
     requires { ⌜ at + 13 ≤ length (now buf) ⌝ }
     ensures { λ r. ⌜ Put (now (buf .entry)) (now (buf .exit)) at r (hex12 address ++ (10 ∷ [])) ⌝ }
 {
-    let p = lines::put_hex(buf, at, 12, address);
+    let p = digits::put_hex(buf, at, 12, address);
     lists::put_byte(buf, p, 10)
 }
 
@@ -61,14 +61,14 @@ fn put_bench(buf: &mut [u8], at: usize, tiles: u64, w: usize, address: u64) -> u
     ensures { λ r. ⌜ Put (now (buf .entry)) (now (buf .exit)) at r (benchLine tiles address) ⌝ }
 {
     let p = lists::put_text(buf, at, b"bench ");
-    let q = number_lines::put_number_then(buf, p, tiles, w, 32);
+    let q = digits::put_number_then(buf, p, tiles, w, 32);
     put_address_end(buf, q, address)
 }
 
 pub fn bench_line(buf: &mut [u8], at: usize, tiles: u64, address: u64) -> usize
     ensures { λ r. ⌜ Placed (now (buf .entry)) (now (buf .exit)) at r (benchLine tiles address) ⌝ }
 {
-    let w = lines::width(tiles);
+    let w = digits::width(tiles);
     if lists::room(buf.len(), at, w + 20) {
         put_bench(buf, at, tiles, w, address)
     } else {

@@ -1,11 +1,4 @@
 // Prints 01's listing line by line, then numbers at the ends of their ranges, then what a buffer with too little room holds.
-use libc::STDOUT_FILENO;
-
-fn show(buf: &[u8], n: usize) {
-    if n <= buf.len() {
-        io::write_all(STDOUT_FILENO, &buf[..n]);
-    }
-}
 
 fn requests(buf: &mut [u8]) -> usize {
     let p = listing::bench_line(buf, 0, 1, 0x80001040);
@@ -28,7 +21,7 @@ fn paper() {
     let mut buf = [0u8; 1024];
     let p = requests(&mut buf);
     let p = answers(&mut buf, p);
-    show(&buf, p);
+    show::fitted(&buf, p);
 }
 
 fn newline(buf: &mut [u8], at: usize) -> usize {
@@ -46,7 +39,7 @@ fn numbers() {
     let p = newline(&mut buf, p);
     let p = listing::put_decimal(&mut buf, p, 18446744073709551615);
     let p = newline(&mut buf, p);
-    show(&buf, p);
+    show::fitted(&buf, p);
 }
 
 fn hexadecimal() {
@@ -61,22 +54,22 @@ fn hexadecimal() {
     let p = listing::refused_line(&mut buf, p, 25, 65536);
     let p = listing::refused_line(&mut buf, p, 23, 0);
     let p = listing::bench_line(&mut buf, p, 64, 0xFFFFFFFFFFC0);
-    show(&buf, p);
+    show::fitted(&buf, p);
 }
 
 // Ten bytes hold 'end 12345' and its newline; 'end 123456' does not fit, and the dots stay.
 fn tight() {
     let mut full = [b'.'; 10];
     let p = listing::end_line(&mut full, 0, 12345);
-    show(&full, p);
+    show::fitted(&full, p);
     let mut dots = [b'.'; 10];
     let p = listing::end_line(&mut dots, 0, 123456);
-    show(&dots, 10);
+    show::fitted(&dots, 10);
     let q = listing::put_decimal(&mut dots, p, 1);
-    show(&dots, 10);
+    show::fitted(&dots, 10);
     let mut buf = [0u8; 64];
     let r = listing::call_line(&mut buf, 0, p as u64, q as u64, 0, 0);
-    show(&buf, r);
+    show::fitted(&buf, r);
 }
 
 fn main() {

@@ -3,15 +3,7 @@ ghost use mathlib.Core.Path.{_≡_};
 ghost use Prim.Native.Nat.{_+_, _*_, _≤_};
 ghost use lib.ListN.{length};
 ghost use Rattle.lists.specs.Over.{Put, Placed};
-ghost use Rattle.lines.specs.Lines.{flitText, flitsText, messageLine};
-
-fn put_flit(buf: &mut [u8], at: usize, f: u64) -> usize
-    requires { ⌜ at + 17 ≤ length (now buf) ⌝ }
-    ensures { λ r. ⌜ Put (now (buf .entry)) (now (buf .exit)) at r (flitText f) ⌝ }
-{
-    let p = lists::put_byte(buf, at, 32);
-    lines::put_hex(buf, p, 16, f)
-}
+ghost use Rattle.lines.specs.Lines.{flitsText, messageLine};
 
 fn put_flits(buf: &mut [u8], at: usize, flits: &[u64]) -> usize
     requires { ⌜ at + 17 * length (now flits) ≤ length (now buf) ⌝ }
@@ -20,7 +12,7 @@ fn put_flits(buf: &mut [u8], at: usize, flits: &[u64]) -> usize
     let mut i = 0;
     let mut p = at;
     while i < flits.len() {
-        p = put_flit(buf, p, flits[i]);
+        p = flit_digits::put_flit(buf, p, flits[i]);
         i += 1;
     }
     p

@@ -7,9 +7,7 @@ use lib.ListN.{length, length-append}
 use Rattle.lists.specs.Over.{Put}
 use Rattle.lists.proofs.OverLaws.{four-put}
 use Rattle.lines.specs.Lines.{decimal, endText, numberThen, callLine, endLine}
-
-pub then-length : (n e : ℕ) → length (numberThen n e) ≡ length (decimal n) + 1
-then-length n e = length-append (decimal n) (e ∷ [])
+use Rattle.lines.proofs.Digits.{then-length}
 
 pub call-length : (number refusal kind value a b c d : ℕ) → a ≡ length (decimal number) → b ≡ length (decimal refusal) → c ≡ length (decimal kind) → d ≡ length (decimal value) →
     a + b + c + d + 4 ≡ length (callLine number refusal kind value)

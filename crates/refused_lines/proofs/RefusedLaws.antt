@@ -7,7 +7,7 @@ use lib.ListN.{length, length-append}
 use Rattle.lists.specs.Over.{Put}
 use Rattle.lists.proofs.OverLaws.{four-put}
 use Rattle.lines.specs.Lines.{decimal, refusedText, atText, numberThen, refusedLine}
-use Rattle.number_lines.proofs.NumberLaws.{then-length}
+use Rattle.lines.proofs.Digits.{then-length}
 
 pub refused-length : (number offset a b : ℕ) → a ≡ length (decimal number) → b ≡ length (decimal offset) → a + b + 17 ≡ length (refusedLine number offset)
 unfolding refusedLine

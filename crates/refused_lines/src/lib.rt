@@ -11,7 +11,7 @@ fn put_text_number(buf: &mut [u8], at: usize, n: u64, w: usize) -> usize
     ensures { λ r. ⌜ Put (now (buf .entry)) (now (buf .exit)) at r (refusedText ++ decimal n) ⌝ }
 {
     let p = lists::put_text(buf, at, b"job refused ");
-    lines::put_number(buf, p, n, w)
+    digits::put_number(buf, p, n, w)
 }
 
 fn put_offset(buf: &mut [u8], at: usize, n: u64, w: usize) -> usize
@@ -19,7 +19,7 @@ fn put_offset(buf: &mut [u8], at: usize, n: u64, w: usize) -> usize
     ensures { λ r. ⌜ Put (now (buf .entry)) (now (buf .exit)) at r (atText ++ numberThen n 10) ⌝ }
 {
     let p = lists::put_text(buf, at, b" at ");
-    number_lines::put_number_then(buf, p, n, w, 10)
+    digits::put_number_then(buf, p, n, w, 10)
 }
 
 // Number and offset, each with its width.
@@ -35,8 +35,8 @@ fn put_refused(buf: &mut [u8], at: usize, number: u64, a: usize, offset: u64, b:
 pub fn refused_line(buf: &mut [u8], at: usize, number: u64, offset: u64) -> usize
     ensures { λ r. ⌜ Placed (now (buf .entry)) (now (buf .exit)) at r (refusedLine number offset) ⌝ }
 {
-    let a = lines::width(number);
-    let b = lines::width(offset);
+    let a = digits::width(number);
+    let b = digits::width(offset);
     if lists::room(buf.len(), at, a + b + 17) {
         put_refused(buf, at, number, a, offset, b)
     } else {

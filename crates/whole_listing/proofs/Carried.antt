@@ -28,7 +28,7 @@ use Rattle.message_fields.specs.Fields as fields
 use Rattle.message_fields.specs.Fields.{fieldsOf, wordsOf, dataCount, Carried}
 use Rattle.message_round.proofs.Accepted.{LineAddress, carried-accepted}
 use Rattle.message_flits.proofs.Count.{count-le}
-use Rattle.answer_lines.specs.Answer.{sentFlits}
+use Rattle.answer_rules.specs.Answer.{sentFlits}
 use Rattle.whole_listing.specs.Rules.{messageFlits}
 
 -- ---- the tiles that a home in range may name are tiles of its bench

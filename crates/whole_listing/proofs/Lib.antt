@@ -1,4 +1,3 @@
 pub mod Whole
 pub mod Carried
 pub mod Rules
-pub mod Room

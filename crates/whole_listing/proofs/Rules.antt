@@ -28,7 +28,7 @@ use Rattle.job_format.specs.Job.{tilesOf, addressOf, memoryOf, callsOf}
 use Rattle.job_bytes.proofs.Numbers.{below-more}
 use Rattle.job_format.proofs.Calls.{accepted-job}
 use Rattle.job_rules.specs.Run.{benchCall}
-use Rattle.answer_lines.specs.Answer.{sentLines, answerLines}
+use Rattle.answer_rules.specs.Answer.{sentLines, answerLines}
 use Rattle.job_rules.specs.Listing.{callLines, linesFrom, listingOf}
 use Rattle.whole_listing.specs.Rules.{messageLines, resultLines, stepLines, ruleListing, Bytes, Rules-statement}
 use Rattle.whole_listing.proofs.Carried.{AllTaken, call-taken, taken-flits}

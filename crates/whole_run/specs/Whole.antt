@@ -13,9 +13,10 @@ use Rattle.lines.specs.Lines.{refusedLine}
 use Rattle.job_check.specs.Check.{checkJob, accepted}
 use Rattle.job_format.specs.Job.{tilesOf, memoryOf, callsOf}
 use Rattle.job_rules.specs.Run.{benchCall}
-use Rattle.whole_listing.specs.Whole.{bytesOf}
 use Rattle.whole_listing.specs.Rules.{ruleListing, Bytes}
-use Rattle.run_parts.specs.Run.{most, Left, firstPiece, nextPiece, runOf}
+use Rattle.run_states.specs.Run.{Left, runOf}
+use Rattle.job_rules.specs.Room.{bytesOf, most}
+use Rattle.job_rules.specs.Turns.{firstPiece, nextPiece, wordsPrinted}
 
 -- all that was put, and whether there is more
 pub record Printed : Type 0 where
@@ -34,14 +35,6 @@ printedFrom (suc f) job len x =
 -- the first piece and at most f more, of a run on the words l with a buffer of len bytes
 unfoldable pub printed : ℕ → List ℕ → ℕ → List ℕ → Printed
 printed f job len l = printedFrom f job len (firstPiece job len l)
-
--- the last of these pieces, and the words that the whole run leaves
-unfoldable pub lastFrom : ℕ → List ℕ → ℕ → Left → Left
-lastFrom ℕ.zero job len x = x
-lastFrom (suc f) job len x = cond (x .going) (lastFrom f job len (nextPiece job len (runOf 0 x) (x .words))) x
-
-unfoldable pub wordsPrinted : List ℕ → ℕ → List ℕ → List ℕ
-wordsPrinted job len l = lastFrom (suc (length job)) job len (firstPiece job len l) .words
 
 -- all of it, and no more
 abbrev pub allOf : List ℕ → Printed

@@ -1,5 +1,5 @@
-use Rattle.answer_lines.specs.Answer.{answerLines}
-use Rattle.answer_lines.proofs.Pieces.{placed-cons}
+use Rattle.answer_rules.specs.Answer.{answerLines}
+use Rattle.answer_rules.proofs.Pieces.{placed-cons}
 use borrow.Author.Needs.{needs}
 use Rattle.answer_lines.proofs.answer_lines.Statement.{statement}
 use Rattle.answer_lines.proofs.answer_lines.Tie as tie

@@ -4,7 +4,7 @@ use mathlib.Core.Path.{_≡_, refl, _∙_}
 use native.Mathlib.Omega.{arith}
 use lib.ListN.{length}
 use Rattle.sent.specs.Places.{placesOf}
-use Rattle.answer_lines.proofs.Pieces.{Rest, rest-step, rest-done}
+use Rattle.answer_rules.proofs.Pieces.{Rest, rest-step, rest-done}
 use borrow.Author.Needs.{needs}
 use Rattle.answer_lines.proofs.put_messages.Statement.{statement}
 use Rattle.answer_lines.proofs.put_messages.Tie as tie

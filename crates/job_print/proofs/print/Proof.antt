@@ -4,7 +4,7 @@ use mathlib.Core.List.{List}
 use native.Mathlib.Omega.{arith}
 use lib.ListN.{length}
 use borrow.Author.Needs.{needs}
-use Rattle.whole_run.proofs.Whole.{piecesLeft, next-less, Stands, stands-first, stands-more, stands-last}
+use Rattle.job_rules.proofs.Turns.{piecesLeft, next-less, Stands, stands-first, stands-more, stands-last}
 use Rattle.job_print.proofs.print.Statement.{statement}
 use Rattle.job_print.proofs.print.Tie as tie
 
@@ -15,34 +15,34 @@ Inv-loop words₀ job out₀ r₀ words out r =
 abbrev μ-loop : tie.MeasureT-loop
 μ-loop words₀ job out₀ r₀ words out r = piecesLeft job r
 
-show-requires : tie.Need-show-requires Inv-loop μ-loop
-show-requires c κs = omega (arith, c .before .before .before .before .before .first .ensures .inside, c .before .before .before .before .before .first .kept .1 .1 .0)
+part-requires : tie.Need-part-requires Inv-loop μ-loop
+part-requires c κs = omega (arith, c .before .before .before .before .before .first-piece .ensures .inside, c .before .before .before .before .before .first-piece .kept .1 .1 .0)
 
 loop-holds : tie.Need-loop-holds Inv-loop μ-loop
 loop-holds c = (refl, refl, λ n l e s. s)
 
-show-requires-2 : tie.Need-show-requires-2 Inv-loop μ-loop
-show-requires-2 c κs = omega (arith, c .before .before .before .before .before .more .ensures .inside, c .before .before .before .before .before .more .kept .1 .1 .0)
+part-requires-2 : tie.Need-part-requires-2 Inv-loop μ-loop
+part-requires-2 c κs = omega (arith, c .before .before .before .before .before .next-piece .ensures .inside, c .before .before .before .before .before .next-piece .kept .1 .1 .0)
 
 loop-less : tie.Need-loop-less Inv-loop μ-loop
-loop-less c = next-less _ _ _ _ _ (c .before .before .before .before .before .before .before .before .before .loop-test .taken) (c .before .before .before .before .before .before .more .ensures .says)
+loop-less c = next-less _ _ _ _ _ (c .before .before .before .before .before .before .before .before .before .loop-test .taken) (c .before .before .before .before .before .before .next-piece .ensures .says)
 
 loop-again : tie.Need-loop-again Inv-loop μ-loop
 loop-again c = (
-  c .before .before .before .before .before .before .more .kept .0 ∙ c .before .before .before .before .before .before .before .before .before .before .loop .inv .0,
-  c .before .before .before .before .before .before .more .kept .1 .1 .0 ∙ c .before .before .before .before .before .before .before .before .before .before .loop .inv .1,
-  λ n l e s. stands-more _ _ _ _ _ _ _ _ (c .before .before .before .before .before .before .before .before .before .before .loop .inv .1 ∙ sym e) (c .before .before .before .before .before .before .before .before .before .before .loop .inv .2 n l e s) (c .before .before .before .before .before .before .before .before .before .loop-test .taken) (c .before .before .before .before .before .before .more .ensures .says) (c .before .before .before .before .before .before .more .ensures .leaves),
+  c .before .before .before .before .before .before .next-piece .kept .0 ∙ c .before .before .before .before .before .before .before .before .before .before .loop .inv .0,
+  c .before .before .before .before .before .before .next-piece .kept .1 .1 .0 ∙ c .before .before .before .before .before .before .before .before .before .before .loop .inv .1,
+  λ n l e s. stands-more _ _ _ _ _ _ _ _ (c .before .before .before .before .before .before .before .before .before .before .loop .inv .1 ∙ sym e) (c .before .before .before .before .before .before .before .before .before .before .loop .inv .2 n l e s) (c .before .before .before .before .before .before .before .before .before .loop-test .taken) (c .before .before .before .before .before .before .next-piece .ensures .says) (c .before .before .before .before .before .before .next-piece .ensures .leaves),
 )
 
 same-length : tie.Need-same-length Inv-loop μ-loop
-same-length c = c .before .loop .inv .0 ∙ c .before .before .before .before .before .before .before .before .first .kept .0
+same-length c = c .before .loop .inv .0 ∙ c .before .before .before .before .before .before .before .before .first-piece .kept .0
 
 same-length-2 : tie.Need-same-length-2 Inv-loop μ-loop
-same-length-2 c = c .before .loop .inv .1 ∙ c .before .before .before .before .before .before .before .before .first .kept .1 .1 .0
+same-length-2 c = c .before .loop .inv .1 ∙ c .before .before .before .before .before .before .before .before .first-piece .kept .1 .1 .0
 
 returns : tie.Need-returns Inv-loop μ-loop
 returns c =
-    stands-last _ _ _ _ _ (c .before .loop .inv .2 _ _ (sym (c .before .before .before .before .before .before .before .before .first .kept .1 .1 .0)) (stands-first _ _ _ _ _ (c .before .before .before .before .before .before .before .before .first .ensures .says) (c .before .before .before .before .before .before .before .before .first .ensures .leaves))) (c .loop-test .left)
+    stands-last _ _ _ _ _ (c .before .loop .inv .2 _ _ (sym (c .before .before .before .before .before .before .before .before .first-piece .kept .1 .1 .0)) (stands-first _ _ _ _ _ (c .before .before .before .before .before .before .before .before .first-piece .ensures .says) (c .before .before .before .before .before .before .before .before .first-piece .ensures .leaves))) (c .loop-test .left)
 
 pub print-spec : {M : Type 1} → statement M
 print-spec =
@@ -51,10 +51,10 @@ print-spec =
     Inv-loop
     μ-loop
     (λ c κs. search needs)
-    show-requires
+    part-requires
     loop-holds
     (λ c κs. search needs)
-    show-requires-2
+    part-requires-2
     loop-less
     loop-again
     same-length

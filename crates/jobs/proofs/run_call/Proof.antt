@@ -7,16 +7,18 @@ use Rattle.jobs.proofs.run_call.Tie as tie
 
 returns : tie.Need-returns
 unfolding callOf
-returns c = simp (tagged-by, sym (c .before .before .before .before .before .is-tile .ensures) ∙ c .before .before .before .before .if1 .taken) (c .before .before .at-tile .ensures)
+returns c = simp (tagged-by, sym (c .before .before .before .before .before .before .is-tile .ensures) ∙ c .before .before .before .before .before .if1 .taken) (rw (c .before .before .before .before .tile-args .ensures) at (c .before .before .at-tile .ensures))
 
 returns-2 : tie.Need-returns-2
 unfolding callOf
-returns-2 c = simp (tagged-by, sym (c .before .before .before .before .before .is-tile .ensures) ∙ c .before .before .before .before .if1 .left) (c .before .before .at-home .ensures)
+returns-2 c = simp (tagged-by, sym (c .before .before .before .before .before .before .is-tile .ensures) ∙ c .before .before .before .before .before .if1 .left) (rw (c .before .before .before .before .home-args .ensures) at (c .before .before .at-home .ensures))
 
 pub run-call-spec : {M : Type 1} → statement M
 run-call-spec =
     tie.close
     (tie.spec
+    (λ c κs. search needs)
+    (λ c κs. search needs)
     (λ c κs. search needs)
     (λ c κs. search needs)
     (λ c κs. search needs)

@@ -1,7 +1,7 @@
 use native.Mathlib.Omega.{arith}
 use Rattle.lines.specs.Lines.{digitByte}
 use Prim.Native.Nat.{_≤_}
-use Rattle.lines.proofs.Puts.{up}
+use Rattle.lines.proofs.Digits.{up}
 use Rattle.lines.proofs.digit.Statement.{statement}
 use Rattle.lines.proofs.digit.Tie as tie
 use mathlib.Core.Path.{_≡_}

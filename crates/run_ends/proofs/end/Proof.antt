@@ -1,0 +1,11 @@
+use Rattle.run_ends.proofs.LineLaws.{line-put}
+use borrow.Author.Needs.{needs}
+use Rattle.run_ends.proofs.end.Statement.{statement}
+use Rattle.run_ends.proofs.end.Tie as tie
+
+returns : tie.Need-returns
+returns c =
+    line-put _ _ _ _ _ _ (c .before .before .before .before .before .before .pre) (c .before .before .before .end-line .ensures) (c .state .ensures)
+
+pub end-spec : {M : Type 1} → statement M
+end-spec = tie.close (tie.spec (λ c κs. search needs) (λ c κs. search needs) (λ c. search needs) returns)
