@@ -3,8 +3,8 @@ ghost use mathlib.Core.Path.{_≡_};
 ghost use Rattle.calls.specs.Calls.{answerOf, startOn, wordsStarted};
 ghost use Rattle.job_format.specs.Job.{tilesOf, memoryOf};
 use answers::Answer;
-use call_tags::HomeArgs;
-use call_tags::TileArgs;
+use home_args::HomeArgs;
+use tile_args::TileArgs;
 use job_format::JobCall;
 
 // A call at a tile.

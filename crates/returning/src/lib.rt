@@ -14,5 +14,5 @@ pub fn bit(b: bool) -> u64
 pub fn message_count(sent: u64, tiles: u64) -> u64
     ensures { λ r. ⌜ r ≡ length (placesOf sent tiles) ⌝ }
 {
-    sent::count(sent, tiles)
+    sent_queues::count(sent, tiles)
 }
