@@ -2,7 +2,7 @@
 // Every call has an answer for every input: what a word cannot hold is 0 or is left as it is, as the definitions say.
 ghost use mathlib.Core.Path.{_≡_};
 ghost use Prim.Native.Nat.{_*_, _/_, _%_, _^_};
-ghost use Rattle.bits.specs.Field.{cut, put64};
+ghost use Rattle.bits.specs.Field.{cut};
 
 // w moved down by n places. Past the word's end nothing is left.
 pub fn shr(w: u64, n: u64) -> u64
@@ -30,22 +30,4 @@ pub fn cut(w: u64, place: u64, width: u64) -> u64
     ensures { λ r. ⌜ r ≡ cut w place width ⌝ }
 {
     low(shr(w, place), width)
-}
-
-// w with the field of `width` bits from `place` on set to v. A field that does not lie inside the word is not set.
-pub fn put(w: u64, place: u64, width: u64, v: u64) -> u64
-    ensures { λ r. ⌜ r ≡ put64 w place width v ⌝ }
-{
-    if place <= 64 {
-        if width <= 64 - place {
-            let end = place + width;
-            let above = shl(shr(w, end), end);
-            let field = shl(low(v, width), place);
-            above | (field | low(w, place))
-        } else {
-            w
-        }
-    } else {
-        w
-    }
 }

@@ -1,20 +1,10 @@
-// The data of the front message of lent flits; and the message at a place of them.
+// The message at a place of lent flits.
 ghost use mathlib.Core.Path.{_≡_};
 ghost use lib.ListN.{drop};
-ghost use Rattle.flit_reading.specs.Reading.{readOf, dataOf};
+ghost use Rattle.flit_reading.specs.Reading.{readOf};
 use flit_reading::Read;
 
-// The data of the front message: the same words of the caller's flits, or an empty part.
-pub fn data_words(flits: &[u64]) -> &[u64]
-    ensures { λ r. ⌜ now r ≡ dataOf (now (flits .entry)) ⌝ }
-{
-    let r = front_read::reading::read(flits);
-    let start = r.start;
-    let used = r.used;
-    &flits[start..used]
-}
-
-// The same at a place: of the flits from there on, of which there are none past the end.
+// Reads the front message of the flits from a place on, of which there are none past the end.
 pub fn read_at(flits: &[u64], at: usize) -> Read
     ensures { λ r. ⌜ r ≡ readOf (drop at (now (flits .entry))) ⌝ }
 {
@@ -22,15 +12,5 @@ pub fn read_at(flits: &[u64], at: usize) -> Read
         front_read::reading::read(&flits[at..])
     } else {
         front_read::reading::read(&flits[..0])
-    }
-}
-
-pub fn data_words_at(flits: &[u64], at: usize) -> &[u64]
-    ensures { λ r. ⌜ now r ≡ dataOf (drop at (now (flits .entry))) ⌝ }
-{
-    if at < flits.len() {
-        data_words(&flits[at..])
-    } else {
-        &flits[..0]
     }
 }

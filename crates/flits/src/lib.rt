@@ -2,8 +2,8 @@
 // What each call promises is an equation with a definition of specs/, for every input; no call requires anything.
 pub mod rounds;
 
-pub use flit_places::data_words;
-pub use flit_places::data_words_at;
+pub use flit_data::data_words;
+pub use flit_data::data_words_at;
 pub use flit_places::read_at;
 pub use flit_reading::Read;
 pub use flit_writing::Written;

@@ -14,7 +14,7 @@ pub fn copy(flits: &[u64], buffer: &mut [u64], at: usize) -> Written
     let front = front_read::reading::read(flits);
     if front.refusal == 0 {
         let h = front.header;
-        let words = flit_places::data_words(flits);
+        let words = flit_data::data_words(flits);
         place_write::writing::write(h, words, buffer, at)
     } else {
         Written {

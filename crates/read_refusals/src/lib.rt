@@ -11,8 +11,8 @@ pub fn read_refusal(row: Row, h: Header, count: u64, flit1: u64, flit2: u64, fli
 {
     let length = bits::cut(flit1, 22, 8);
     let extra = either(row.three, 2, 0);
-    let known = rule_tests::in_table(row);
-    let long = rule_tests::length_allowed(row, length);
+    let known = type_tests::in_table(row);
+    let long = type_tests::length_allowed(row, length);
     let ports = rule_tests::ports_listed(row, h);
     let clear = rule_tests::reserved_clear(row, flit1, flit2, flit3);
     let allowed = field_tests::fields_allowed(row, extra < length, h);

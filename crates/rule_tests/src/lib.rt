@@ -1,22 +1,8 @@
-// The tests of a message by its row: type, length, ports, reserved bits. The numbers are those of the refusals.
+// The tests of a message by its row: ports and reserved bits. The numbers are those of the refusals.
 ghost use mathlib.Core.Path.{_≡_};
-ghost use Rattle.flit_rules.specs.Rules.{known, lengthAllowed, listed, portsListed, reservedClear};
+ghost use Rattle.flit_rules.specs.Rules.{listed, portsListed, reservedClear};
 use flit_rules::Row;
 use flit_words::Header;
-
-// 11
-pub fn in_table(row: Row) -> bool
-    ensures { λ r. ⌜ r ≡ known row ⌝ }
-{
-    row.network != 0
-}
-
-// 12
-pub fn length_allowed(row: Row, length: u64) -> bool
-    ensures { λ r. ⌜ r ≡ lengthAllowed row length ⌝ }
-{
-    (length == row.short) | (length == row.long)
-}
 
 fn port_listed(port: u64) -> bool
     ensures { λ r. ⌜ r ≡ listed port ⌝ }

@@ -13,11 +13,11 @@ fn write_header(part: &mut [u64], h: Header, count: u64, three: bool)
     ensures { λ _. ⌜ now (part .exit) ≡ headerFlits three h count ++ drop (cond three 2 0 + 1) (now (part .entry)) ⌝ }
 {
     if three {
-        part[0] = header_flits::flit1(h, count);
+        part[0] = first_flit::flit1(h, count);
         part[1] = header_flits::flit2(h);
         part[2] = header_flits::flit3(h);
     } else {
-        part[0] = header_flits::flit1(h, count);
+        part[0] = first_flit::flit1(h, count);
     }
 }
 

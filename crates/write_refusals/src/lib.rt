@@ -22,8 +22,8 @@ pub fn write_refusal(row: Row, h: Header, count: usize, room: usize, at: usize) 
 {
     let length = either(row.three, 2, 0) + count as u64;
     let n = length + 1;
-    let known = rule_tests::in_table(row);
-    let long = rule_tests::length_allowed(row, length);
+    let known = type_tests::in_table(row);
+    let long = type_tests::length_allowed(row, length);
     let ports = rule_tests::ports_listed(row, h);
     let allowed = field_tests::fields_allowed(row, 0 < count, h);
     let inside = fits_at(room, at, n as usize);

@@ -1,7 +1,7 @@
 use Rattle.flit_words.specs.Words.{flit1Of}
 use borrow.Author.Needs.{needs}
-use Rattle.header_flits.proofs.flit1.Statement.{statement}
-use Rattle.header_flits.proofs.flit1.Tie as tie
+use Rattle.first_flit.proofs.flit1.Statement.{statement}
+use Rattle.first_flit.proofs.flit1.Tie as tie
 
 returns : tie.Need-returns
 unfolding flit1Of

@@ -1,8 +1,8 @@
 use native.Mathlib.Omega.{arith}
 use Rattle.bits.proofs.FieldLaws.{put-word, put-none}
 use borrow.Author.Needs.{needs}
-use Rattle.bits.proofs.put.Statement.{statement}
-use Rattle.bits.proofs.put.Tie as tie
+use Rattle.field_put.proofs.put.Statement.{statement}
+use Rattle.field_put.proofs.put.Tie as tie
 
 returns : tie.Need-returns
 returns c =

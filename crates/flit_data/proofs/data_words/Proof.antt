@@ -2,8 +2,8 @@ use native.Mathlib.Omega.{arith}
 use Rattle.flit_reading.specs.Reading.{dataOf}
 use Rattle.flit_reading.proofs.ReadLaws.{start-le-used, used-le}
 use borrow.Author.Needs.{needs}
-use Rattle.flit_places.proofs.data_words.Statement.{statement}
-use Rattle.flit_places.proofs.data_words.Tie as tie
+use Rattle.flit_data.proofs.data_words.Statement.{statement}
+use Rattle.flit_data.proofs.data_words.Tie as tie
 
 mul-result : tie.Need-mul-result
 mul-result c =

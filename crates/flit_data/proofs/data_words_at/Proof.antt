@@ -3,8 +3,8 @@ use lib.ListN.{drop-of-length-le}
 use Rattle.flit_reading.specs.Reading.{dataOf}
 use Rattle.flit_reading.proofs.ReadLaws.{rest-part, data-none}
 use borrow.Author.Needs.{needs}
-use Rattle.flit_places.proofs.data_words_at.Statement.{statement}
-use Rattle.flit_places.proofs.data_words_at.Tie as tie
+use Rattle.flit_data.proofs.data_words_at.Statement.{statement}
+use Rattle.flit_data.proofs.data_words_at.Tie as tie
 
 returns : tie.Need-returns
 returns c = let a = c .before .before .before .before .args in c .data-words .ensures ∙ ap dataOf (rest-part (a .flits .now) (a .at))
