@@ -98,3 +98,12 @@ pub fn put_pair(buf: &mut [u8], at: usize, a: u64, aw: usize, b: u64, bw: usize,
     let p = put_number_then(buf, at, a, aw, 32);
     put_number_then(buf, p, b, bw, end)
 }
+
+// A text, a number whose width is known, and the byte behind it.
+pub fn put_labelled(buf: &mut [u8], at: usize, text: &[u8], n: u64, w: usize, end: u8) -> usize
+    requires { ⌜ (w ≡ length (decimal n)) × (at + (length (now text) + (w + 1)) ≤ length (now buf)) ⌝ }
+    ensures { λ r. ⌜ Put (now (buf .entry)) (now (buf .exit)) at r (now (text .entry) ++ numberThen n end) ⌝ }
+{
+    let p = lists::put_text(buf, at, text);
+    put_number_then(buf, p, n, w, end)
+}

@@ -13,7 +13,7 @@ use Rattle.calls.specs.Calls.{startOn, wordsStarted}
 use Rattle.theorems.specs.Runs.{afterCall}
 use Rattle.lines.specs.Lines.{benchLine, endLine, refusedLine}
 use Rattle.lines.proofs.Digits.{decimal-le}
-use Rattle.number_lines.proofs.NumberLaws.{end-length}
+use Rattle.end_lines.proofs.EndLaws.{end-length}
 use Rattle.refused_lines.proofs.RefusedLaws.{refused-length}
 use Rattle.listing.proofs.BenchLaws.{bench-length}
 use Rattle.job_check.specs.declared.Checked.{Checked}

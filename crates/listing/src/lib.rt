@@ -7,9 +7,9 @@ ghost use mathlib.Core.List.{_∷_, [], _++_};
 ghost use lib.ListN.{length};
 ghost use Rattle.lists.specs.Over.{Put, Placed};
 ghost use Rattle.lines.specs.Lines.{hex16, hex12, decimal, benchLine};
+pub use end_lines::end_line;
 pub use message_lines::message_line;
 pub use number_lines::call_line;
-pub use number_lines::end_line;
 pub use refused_lines::refused_line;
 
 // ---- numbers

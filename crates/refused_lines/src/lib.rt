@@ -4,7 +4,7 @@ ghost use Prim.Native.Nat.{_+_, _≤_};
 ghost use mathlib.Core.List.{_++_};
 ghost use lib.ListN.{length};
 ghost use Rattle.lists.specs.Over.{Put, Placed};
-ghost use Rattle.lines.specs.Lines.{decimal, refusedText, atText, numberThen, refusedLine};
+ghost use Rattle.lines.specs.Lines.{decimal, refusedText, refusedLine};
 
 fn put_text_number(buf: &mut [u8], at: usize, n: u64, w: usize) -> usize
     requires { ⌜ (w ≡ length (decimal n)) × (at + (w + 12) ≤ length (now buf)) ⌝ }
@@ -14,21 +14,13 @@ fn put_text_number(buf: &mut [u8], at: usize, n: u64, w: usize) -> usize
     digits::put_number(buf, p, n, w)
 }
 
-fn put_offset(buf: &mut [u8], at: usize, n: u64, w: usize) -> usize
-    requires { ⌜ (w ≡ length (decimal n)) × (at + (w + 5) ≤ length (now buf)) ⌝ }
-    ensures { λ r. ⌜ Put (now (buf .entry)) (now (buf .exit)) at r (atText ++ numberThen n 10) ⌝ }
-{
-    let p = lists::put_text(buf, at, b" at ");
-    digits::put_number_then(buf, p, n, w, 10)
-}
-
 // Number and offset, each with its width.
 fn put_refused(buf: &mut [u8], at: usize, number: u64, a: usize, offset: u64, b: usize) -> usize
     requires { ⌜ (a ≡ length (decimal number)) × ((b ≡ length (decimal offset)) × (at + (a + b + 17) ≤ length (now buf))) ⌝ }
     ensures { λ r. ⌜ Put (now (buf .entry)) (now (buf .exit)) at r (refusedLine number offset) ⌝ }
 {
     let p = put_text_number(buf, at, number, a);
-    put_offset(buf, p, offset, b)
+    digits::put_labelled(buf, p, b" at ", offset, b, 10)
 }
 
 // The only line of a refused job.

@@ -13,7 +13,7 @@ pub fn end(buf: &mut [u8], r: Run) -> Run
     requires { ⌜ r .put + length (endLine (r .calls)) ≤ length (now buf) ⌝ }
     ensures { λ a. ⌜ Puts (r .put) (now (buf .entry)) (ended (endLine (r .calls)) []) a [] (now (buf .exit)) ⌝ }
 {
-    let p = number_lines::end_line(buf, r.put, r.calls);
+    let p = end_lines::end_line(buf, r.put, r.calls);
     run_states::state(p, false, 0, 0)
 }
 
