@@ -4,8 +4,8 @@ ghost use Rattle.calls.specs.Calls.{answerOf, startOn, wordsStarted};
 ghost use Rattle.job_format.specs.Job.{tilesOf, memoryOf};
 use answers::Answer;
 use home_args::HomeArgs;
-use tile_args::TileArgs;
 use job_format::JobCall;
+use tile_args::TileArgs;
 
 // A call at a tile.
 pub fn tile_args(c: JobCall) -> TileArgs

@@ -30,6 +30,6 @@ pub extern "C" fn duzh_run_call(
 {
     let c = job_telling::call_in(job, at);
     let a = jobs::run_call(w, c);
-    let place = answer_lines::answer_lines(text, p, w, line, number, a);
+    let place = jobs::answer_lines(text, p, w, line, number, a);
     job_telling::tell_made(out, place, c, a)
 }

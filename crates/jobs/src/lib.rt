@@ -14,6 +14,7 @@ ghost use Rattle.job_rules.specs.Run.{benchCall};
 ghost use Rattle.job_rules.specs.Listing.{callLines};
 ghost use Rattle.job_rules.specs.Room.{most};
 ghost use Rattle.job_rules.specs.Turns.{turnsFrom, acceptedPiece, firstPiece, nextPiece, callLeft};
+pub use answer_lines::answer_lines;
 use answers::Answer;
 pub use job_args::start_job;
 use job_format::JobCall;

@@ -1,18 +1,20 @@
 // Prints 01's listing line by line, then numbers at the ends of their ranges, then what a buffer with too little room holds.
 
+// The lines of an accepted call that sent a message.
+fn sent(buf: &mut [u8], at: usize, number: u64, flits: &[u64]) -> usize {
+    let p = listing::call_line(buf, at, number, 0, 3, 0);
+    listing::message_line(buf, p, flits)
+}
+
 fn requests(buf: &mut [u8]) -> usize {
     let p = listing::bench_line(buf, 0, 1, 0x80001040);
-    let p = listing::call_line(buf, p, 1, 0, 3, 0);
-    let p = listing::message_line(buf, p, &[0x87C000, 0x0000800010400400, 0]);
-    let p = listing::call_line(buf, p, 2, 0, 3, 0);
-    listing::message_line(buf, p, &[0x8084C000, 0x0000800010400700, 0])
+    let p = sent(buf, p, 1, &[0x87C000, 0x0000800010400400, 0]);
+    sent(buf, p, 2, &[0x8084C000, 0x0000800010400700, 0])
 }
 
 fn answers(buf: &mut [u8], at: usize) -> usize {
-    let p = listing::call_line(buf, at, 3, 0, 3, 0);
-    let p = listing::message_line(buf, p, &[0x02060000, 7, 0, 0, 0, 0, 0, 0, 0]);
-    let p = listing::call_line(buf, p, 4, 0, 3, 0);
-    let p = listing::message_line(buf, p, &[0x02074028, 7, 0, 0, 0, 0, 0, 0, 0]);
+    let p = sent(buf, at, 3, &[0x02060000, 7, 0, 0, 0, 0, 0, 0, 0]);
+    let p = sent(buf, p, 4, &[0x02074028, 7, 0, 0, 0, 0, 0, 0, 0]);
     let p = listing::call_line(buf, p, 5, 0, 1, 7);
     listing::end_line(buf, p, 5)
 }
@@ -28,17 +30,18 @@ fn newline(buf: &mut [u8], at: usize) -> usize {
     listing::message_line(buf, at, &[])
 }
 
-// Each number, and behind it an empty message's line.
+// A number, and behind it an empty message's line.
+fn number(buf: &mut [u8], at: usize, n: u64) -> usize {
+    let p = listing::put_decimal(buf, at, n);
+    newline(buf, p)
+}
+
 fn numbers() {
     let mut buf = [0u8; 512];
-    let p = listing::put_decimal(&mut buf, 0, 0);
-    let p = newline(&mut buf, p);
-    let p = listing::put_decimal(&mut buf, p, 9);
-    let p = newline(&mut buf, p);
-    let p = listing::put_decimal(&mut buf, p, 10);
-    let p = newline(&mut buf, p);
-    let p = listing::put_decimal(&mut buf, p, 18446744073709551615);
-    let p = newline(&mut buf, p);
+    let p = number(&mut buf, 0, 0);
+    let p = number(&mut buf, p, 9);
+    let p = number(&mut buf, p, 10);
+    let p = number(&mut buf, p, 18446744073709551615);
     show::fitted(&buf, p);
 }
 

@@ -6,8 +6,8 @@ use lib.ListN.{length}
 use Rattle.sent.specs.Places.{placesOf}
 use Rattle.answer_rules.proofs.Pieces.{Rest, rest-step, rest-done}
 use borrow.Author.Needs.{needs}
-use Rattle.answer_lines.proofs.put_messages.Statement.{statement}
-use Rattle.answer_lines.proofs.put_messages.Tie as tie
+use Rattle.sent_lines.proofs.put_messages.Statement.{statement}
+use Rattle.sent_lines.proofs.put_messages.Tie as tie
 
 abbrev Inv-loop : tie.InvT-loop
 Inv-loop buf₀ at w line sent tiles n p₀ i₀ buf p i = (n ≡ length (placesOf sent tiles)) × (i ≤ n) × (length buf ≡ length buf₀) × Rest line w (placesOf sent tiles) buf₀ at buf p i
