@@ -2,10 +2,10 @@
 // crates call.
 ghost use mathlib.Core.Path.{_≡_};
 ghost use Rattle.walker.specs.Walk.{walkOf};
+pub use walker_next::next;
 pub use walker_place::Walker;
 pub use walker_place::moved;
 pub use walker_place::start;
-pub use walker_step::next;
 pub use walker_step::step;
 
 // How far a recording was walked: the messages passed, the place behind them, and the refusal of what stands there (10 at the end).

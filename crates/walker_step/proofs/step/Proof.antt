@@ -52,10 +52,10 @@ use Rattle.walker_place.proofs.moved as moved
 use Rattle.walker_place.proofs.moved.Symbol as moved-def
 use Rattle.walker_place.proofs.moved.Symbol.{name as #walker-place·moved}
 use Rattle.walker_place.proofs.moved.Met as moved-thm
-use Rattle.walker_step.proofs.next as next
-use Rattle.walker_step.proofs.next.Symbol as next-def
-use Rattle.walker_step.proofs.next.Symbol.{name as #walker-step·next}
-use Rattle.walker_step.proofs.next.Met as next-thm
+use Rattle.walker_next.proofs.next as next
+use Rattle.walker_next.proofs.next.Symbol as next-def
+use Rattle.walker_next.proofs.next.Symbol.{name as #walker-next·next}
+use Rattle.walker_next.proofs.next.Met as next-thm
 use Rattle.walker_step.proofs.step.Key.{name as #walker-step·step}
 use Rattle.walker_step.proofs.step as step
 use Rattle.walker_step.proofs.step.Statement as stated
@@ -141,7 +141,7 @@ module _ {M : Type 1} (𝓤 : URA M) (H : Heap 𝓤) (A : Atoms 𝓤) (W : Given
       suffices ! _ (ends-at 𝓤 H A step.ended stayed (step.clauses 𝓤 H A mem run) W (((κ, tt), (q, tt), tt, (s, (n, tt)), at), tt) u t (tt, (tt, tt)) (tt, (tt, tt))) $ says ! e $
       move ! (1 ∷ []) $ frame ! $ nothing ! $ owned ! usize (Is usize) (uint-makes 𝓤 H A W w64) n _ (refl, ok) $ fjoin ! $ move ! (2 ∷ 0 ∷ []) $ fjoin ! $ frame ! $ done !
 
-  module _ (C : Calls 𝓤 H) (Λ : Loops 𝓤 H) (fm : FmC 𝓤 H (W .laws) C) (known-start : Triple 𝓤 (C #walker-place·start) (Start 𝓤 H A mem run)) (known-moved : Triple 𝓤 (C #walker-place·moved) (Moved 𝓤 H A mem run)) (known-next : Triple 𝓤 (C #walker-step·next) (Next 𝓤 H A mem run)) where
+  module _ (C : Calls 𝓤 H) (Λ : Loops 𝓤 H) (fm : FmC 𝓤 H (W .laws) C) (known-start : Triple 𝓤 (C #walker-place·start) (Start 𝓤 H A mem run)) (known-moved : Triple 𝓤 (C #walker-place·moved) (Moved 𝓤 H A mem run)) (known-next : Triple 𝓤 (C #walker-next·next) (Next 𝓤 H A mem run)) where
     walk : Is (ShrSlice (named 0) κ u64) s (v ∷ []) → ent 𝓤 (onEntry 𝓤 H A step.signature (κ, tt) (q, tt) (s, (n, tt)) at) (WpFn 𝓤 H C Λ code.function (v ∷ vint w64 n ∷ []) Post)
     walk p =
         qed W (raw (onEntry 𝓤 H A step.signature (κ, tt) (q, tt) (s, (n, tt)) at) ∷ []) ∵ enter ! C Λ code.function (v ∷ vint w64 n ∷ []) _ $
@@ -172,13 +172,13 @@ module _ {M : Type 1} (𝓤 : URA M) (H : Heap 𝓤) (A : Atoms 𝓤) (W : Given
         by ! (exits t u′ (e′ ∙ (ap (λ (x : RefT (List ℕ)). readOf (drop-list (r₁ .at) (now x))) (e₁ .0 ∙ e .0) ∙ ap (λ (k : ℕ). readOf (drop-list k (now s))) (e₁ .1)))))))))))))))))))))
 
 module _ {M : Type 1} (𝓤 : URA M) (H : Heap 𝓤) (A : Atoms 𝓤) (W : Given 𝓤 H A) (mem : Memory → SProp 𝓤) (run : Routine → Fun 𝓤) where
-  step-walks : (C : Calls 𝓤 H) (Λ : Loops 𝓤 H) → FmC 𝓤 H (W .laws) C → Triple 𝓤 (C #walker-place·start) (Start 𝓤 H A mem run) → Triple 𝓤 (C #walker-place·moved) (Moved 𝓤 H A mem run) → Triple 𝓤 (C #walker-step·next) (Next 𝓤 H A mem run)
+  step-walks : (C : Calls 𝓤 H) (Λ : Loops 𝓤 H) → FmC 𝓤 H (W .laws) C → Triple 𝓤 (C #walker-place·start) (Start 𝓤 H A mem run) → Triple 𝓤 (C #walker-place·moved) (Moved 𝓤 H A mem run) → Triple 𝓤 (C #walker-next·next) (Next 𝓤 H A mem run)
       → Walks 𝓤 H A step.ended stayed (WpFn 𝓤 H C Λ code.function) (step.clauses 𝓤 H A mem run)
   step-walks C Λ fm known-start known-moved known-next = walked 𝓤 H A step.ended stayed (step.clauses 𝓤 H A mem run) (WpFn 𝓤 H C Λ code.function) (λ κs. (slice-vals, (uint-vals w64, tt))) (λ κs. (shr-slice-tells (named 0) (κs .0) u64, (uint-tells w64, tt)))
       (λ κs qs bounds a g are. via 𝓤 _ (fst∗ 𝓤 _ (emp 𝓤)) (walk 𝓤 H A W mem run (κs .0) (qs .0) (a .0) (a .1 .0) (are .1 .0 .1) C Λ fm known-start known-moved known-next (are .0)))
 
 step-meets : {M : Type 1} (𝓤 : URA M) (H : Heap 𝓤) (A : Atoms 𝓤) (W : Given 𝓤 H A) (mem : Memory → SProp 𝓤) (run : Routine → Fun 𝓤) (𝓣 : Tables 𝓤 H)
-    → Triple 𝓤 (𝓣 .C #walker-place·start) (Start 𝓤 H A mem run) → Triple 𝓤 (𝓣 .C #walker-place·moved) (Moved 𝓤 H A mem run) → Triple 𝓤 (𝓣 .C #walker-step·next) (Next 𝓤 H A mem run)
+    → Triple 𝓤 (𝓣 .C #walker-place·start) (Start 𝓤 H A mem run) → Triple 𝓤 (𝓣 .C #walker-place·moved) (Moved 𝓤 H A mem run) → Triple 𝓤 (𝓣 .C #walker-next·next) (Next 𝓤 H A mem run)
     → Meets 𝓤 H A step.signature (WpFn 𝓤 H (𝓣 .C) (𝓣 .Λ) code.function) (step.spec 𝓤 H A mem run)
 step-meets 𝓤 H A W mem run 𝓣 known-start known-moved known-next = walk-meets 𝓤 H A step.ended stayed W (goes-none-slice 𝓤 H A W 1 (0 ∷ []) tt (plain (λ _. u64)) yes, (goes-none 𝓤 H A W 1 (λ _. usize) yes (λ κs x f. refl), tt)) (step.clauses 𝓤 H A mem run) (WpFn 𝓤 H (𝓣 .C) (𝓣 .Λ) code.function) (WpFn-mono 𝓤 H (W .laws) 𝓣 code.function)
     (step-walks 𝓤 H A W mem run (𝓣 .C) (𝓣 .Λ) (fmOf 𝓤 H (W .laws) 𝓣) known-start known-moved known-next)
@@ -191,4 +191,4 @@ step-spec 𝓤 H 𝓜 𝓖 𝓡 =
     (step-meets 𝓤 H (𝓖 .A) (givenOf 𝓤 H 𝓜 𝓖) (𝓜 .mem) (𝓡 .run) (tablesOf 𝓤 H 𝓜 (tables 𝓤 H 𝓜 𝓡 code.env))
     (cited 𝓤 H (Start 𝓤 H (𝓖 .A) (𝓜 .mem) (𝓡 .run)) 𝓜 𝓡 code.env #walker-place·start start-def.routine code.calls-walker-place·start (start-thm.met 𝓤 H 𝓜 𝓖 𝓡))
     (cited 𝓤 H (Moved 𝓤 H (𝓖 .A) (𝓜 .mem) (𝓡 .run)) 𝓜 𝓡 code.env #walker-place·moved moved-def.routine code.calls-walker-place·moved (moved-thm.met 𝓤 H 𝓜 𝓖 𝓡))
-    (cited 𝓤 H (Next 𝓤 H (𝓖 .A) (𝓜 .mem) (𝓡 .run)) 𝓜 𝓡 code.env #walker-step·next next-def.routine code.calls-walker-step·next (next-thm.met 𝓤 H 𝓜 𝓖 𝓡)))
+    (cited 𝓤 H (Next 𝓤 H (𝓖 .A) (𝓜 .mem) (𝓡 .run)) 𝓜 𝓡 code.env #walker-next·next next-def.routine code.calls-walker-next·next (next-thm.met 𝓤 H 𝓜 𝓖 𝓡)))

@@ -1,7 +1,7 @@
 use Rattle.round_trips.proofs.RoundCalls.{echo-done, echo-refused}
 use borrow.Author.Needs.{needs}
-use Rattle.flits.proofs.rounds.echo.Statement.{statement}
-use Rattle.flits.proofs.rounds.echo.Tie as tie
+use Rattle.flit_echo.proofs.echo.Statement.{statement}
+use Rattle.flit_echo.proofs.echo.Tie as tie
 
 returns : tie.Need-returns
 returns c =

@@ -1,7 +1,7 @@
 use Rattle.round_trips.proofs.RoundCalls.{copy-done, copy-refused}
 use borrow.Author.Needs.{needs}
-use Rattle.flits.proofs.rounds.copy.Statement.{statement}
-use Rattle.flits.proofs.rounds.copy.Tie as tie
+use Rattle.flit_copy.proofs.copy.Statement.{statement}
+use Rattle.flit_copy.proofs.copy.Tie as tie
 
 returns : tie.Need-returns
 returns c =

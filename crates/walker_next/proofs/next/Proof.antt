@@ -1,4 +1,4 @@
--- `walker_step::next` meets its contract: a walk of its MIR, by hand. The struct is taken apart, and `flit_places::read_at` is called on the slice and the number. All that the proof knows of `flit_places::read_at` is that it meets its contract.
+-- `walker_next::next` meets its contract: a walk of its MIR, by hand. The struct is taken apart, and `flit_places::read_at` is called on the slice and the number. All that the proof knows of `flit_places::read_at` is that it meets its contract.
 -- The struct is Copy: what it owns is had twice, one copy is kept whole for the exit, and of the other what flits owns goes to the callee, beside the lifetime's token, which comes back.
 -- Assumes nothing.
 use mathlib.Core.Path.{_≡_, refl}
@@ -53,10 +53,10 @@ use Rattle.flit_places.proofs.read_at as step
 use Rattle.flit_places.proofs.read_at.Symbol as step-def
 use Rattle.flit_places.proofs.read_at.Symbol.{name as #flit-places·read-at}
 use Rattle.flit_places.proofs.read_at.Met as step-thm
-use Rattle.walker_step.proofs.next.Key.{name as #walker-step·next}
-use Rattle.walker_step.proofs.next as next
-use Rattle.walker_step.proofs.next.Statement as stated
-use Rattle.walker_step.proofs.next.Code as code
+use Rattle.walker_next.proofs.next.Key.{name as #walker-next·next}
+use Rattle.walker_next.proofs.next as next
+use Rattle.walker_next.proofs.next.Statement as stated
+use Rattle.walker_next.proofs.next.Code as code
 
 -- the struct's type, over the signature's lifetimes
 abbrev B : Lfts 1 → RattleType
@@ -160,6 +160,6 @@ pub next-spec : {M : Type 1} → stated.statement M
 unfolding code.routine tablesOf
 next-spec 𝓤 H 𝓜 𝓖 𝓡 =
     entered 𝓤 H (tripleOf 𝓤 H (𝓖 .A) next.signature (next.spec 𝓤 H (𝓖 .A) (𝓜 .mem) (𝓡 .run)))
-    (tables 𝓤 H 𝓜 𝓡 code.env .C) (tables 𝓤 H 𝓜 𝓡 code.env .Λ) #walker-step·next code.function (code.unfolded 𝓤 H 𝓜 𝓡)
+    (tables 𝓤 H 𝓜 𝓡 code.env .C) (tables 𝓤 H 𝓜 𝓡 code.env .Λ) #walker-next·next code.function (code.unfolded 𝓤 H 𝓜 𝓡)
     (next-meets 𝓤 H (𝓖 .A) (givenOf 𝓤 H 𝓜 𝓖) (𝓜 .mem) (𝓡 .run) (tablesOf 𝓤 H 𝓜 (tables 𝓤 H 𝓜 𝓡 code.env))
     (cited 𝓤 H (StepAt 𝓤 H (𝓖 .A) (𝓜 .mem) (𝓡 .run)) 𝓜 𝓡 code.env #flit-places·read-at step-def.routine code.calls-flit-places·read-at (step-thm.met 𝓤 H 𝓜 𝓖 𝓡)))
