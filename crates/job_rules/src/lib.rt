@@ -1,1 +1,2 @@
-// A job's calls as calls on a bench, and the listing that they give (01, 'Jobs'), as definitions. The code is in jobs, job_lines and run_lines.
+// A job's calls as calls on a bench, the listing that they give and its pieces (01, 'Jobs'), as definitions, in specs/, with their laws, in proofs/.
+// The code is in jobs.

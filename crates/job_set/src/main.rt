@@ -14,17 +14,11 @@ fn cut_title(n: usize) {
     io::write_all(STDOUT_FILENO, b"\n");
 }
 
-fn cut(words: &mut [u64], job: &[u8], n: usize, out: &mut [u8]) {
-    if n <= job.len() {
-        cut_title(n);
-        job_print::print(words, &job[..n], out);
-    }
-}
-
 fn cuts(words: &mut [u64], job: &[u8], out: &mut [u8]) {
     let mut n: usize = 0;
     while n < job.len() {
-        cut(words, job, n, out);
+        cut_title(n);
+        job_print::print(words, &job[..n], out);
         n += 1;
     }
 }

@@ -1,7 +1,8 @@
 use Prim.Native.Nat.{_-_}
-use mathlib.Core.Path.{_≡_, refl, _∙_}
+use mathlib.Core.Path.{_≡_, refl, sym, _∙_}
 use native.Mathlib.Omega.{arith}
 use lib.ListN.{length}
+use lib.Seq.{length-take-le}
 use borrow.Author.Needs.{needs}
 use Rattle.job_set.proofs.cuts.Statement.{statement}
 use Rattle.job_set.proofs.cuts.Tie as tie
@@ -15,6 +16,9 @@ abbrev μ-loop : tie.MeasureT-loop
 loop-holds : tie.Need-loop-holds Inv-loop μ-loop
 loop-holds c = (refl, refl)
 
+slice-aggregate-print : tie.Need-slice-aggregate-print Inv-loop μ-loop
+slice-aggregate-print c = sym (length-take-le _ _ (omega (arith, c .before .before .before .loop-test .taken)))
+
 add-n : tie.Need-add-n Inv-loop μ-loop
 add-n c = omega arith
 
@@ -22,7 +26,7 @@ loop-less : tie.Need-loop-less Inv-loop μ-loop
 loop-less c = omega arith
 
 loop-again : tie.Need-loop-again Inv-loop μ-loop
-loop-again c = (c .before .before .before .before .cut .kept .0 ∙ c .before .before .before .before .before .before .before .before .loop .inv .0, omega arith)
+loop-again c = (c .before .before .before .before .print .kept .0 ∙ c .before .before .before .before .before .before .before .before .before .before .loop .inv .0, c .before .before .before .before .print .kept .1 .1 .0 ∙ c .before .before .before .before .before .before .before .before .before .before .loop .inv .1)
 
 same-length : tie.Need-same-length Inv-loop μ-loop
 same-length c = c .before .loop .inv .0
@@ -37,6 +41,8 @@ cuts-spec =
     Inv-loop
     μ-loop
     loop-holds
+    (λ c κs. search needs)
+    slice-aggregate-print
     (λ c κs. search needs)
     add-n
     loop-less
