@@ -9,14 +9,14 @@ use borrow.Author.Tests.{leb-true, eqb-true}
 use lib.Dec.{eqb, leb}
 use lib.ListN.{length, getD, take, drop, length-append}
 use lib.Seq.{drop-cons, take-at, drop-length}
-use Rattle.lists.specs.Over.{Placed}
+use Rattle.lists.specs.Over.{over, Placed}
 use Rattle.sent.specs.declared.Place.{Place}
 use Rattle.sent.specs.Places.{nowhere}
 use Rattle.messages.specs.declared.Sent.{Sent}
 use Rattle.messages.specs.Rows.{sentAt}
 use Rattle.flit_words.specs.declared.Header.{Header}
 use Rattle.flit_table.specs.Table.{rowOf, extra}
-use Rattle.flit_writing.specs.Writing.{refusals, writeRefusal, flitsOf, over, writtenOf, bufferOf}
+use Rattle.flit_writing.specs.Writing.{refusals, writeRefusal, flitsOf, writtenOf, bufferOf}
 use Rattle.flit_writing.specs.declared.Written.{Written}
 use Rattle.message_fields.specs.Fields.{fieldsOf, wordsOf}
 use Rattle.flit_reading.proofs.ReadLaws.{holds}

@@ -7,9 +7,11 @@ use native.Mathlib.Numerals.{add-one}
 use lib.ListN.{length, drop, replicate, set, length-append, length-replicate, replicate-append-replicate}
 use lib.Seq.{sets}
 use borrow.Author.Tests.{lt-ltb, le-ltb, le-leb, lt-leb}
+use Rattle.lists.specs.Over.{over}
+use Rattle.lists.proofs.OverLaws.{then-over}
 use Rattle.words.specs.declared.Row.{Row}
-use Rattle.words.specs.Blocks.{need, over, homeWords, tileWords, pairWords, rowWords}
-use Rattle.words.proofs.Over.{sets-over, then-over, length-row}
+use Rattle.words.specs.Blocks.{need, homeWords, tileWords, pairWords, rowWords}
+use Rattle.words.proofs.Over.{sets-over, length-row}
 use Rattle.protocol.specs.Parts.{Words, empty, idle, absent}
 use Rattle.protocol.specs.Bench.{freshTile, fresh}
 use Rattle.codec.specs.Encode.{row, encTile, encHead, encQueue, stateNumber, cacheWords, waitingNumber, waitingWord, waitingValue, encTiles, encHome, encLine, lineOf, phaseNumber, requester, owedTiles, encode}

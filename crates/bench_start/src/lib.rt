@@ -2,7 +2,7 @@
 ghost use mathlib.Core.Path.{_≡_};
 ghost use Prim.Native.Nat.{_+_, _≤_};
 ghost use lib.ListN.{length, replicate};
-ghost use Rattle.words.specs.Blocks.{over};
+ghost use Rattle.lists.specs.Over.{over};
 ghost use Rattle.calls.specs.Calls.{answerOf, startOn, wordsStarted};
 use answers::Answer;
 

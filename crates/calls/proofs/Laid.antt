@@ -7,10 +7,11 @@ use native.Mathlib.Omega.{arith}
 use native.Mathlib.Nat.{zero-add, add-assoc}
 use lib.ListN.{length, getD, take, drop, set, length-append, length-set, take-append-drop}
 use lib.Seq.{drop-drop, take-add, getD-set-same, getD-set-other}
+use Rattle.lists.specs.Over.{over}
 use Rattle.words.specs.declared.TileBlock.{TileBlock}
 use Rattle.words.specs.declared.HomeBlock.{HomeBlock}
 use Rattle.words.specs.Blocks as blocks
-use Rattle.words.specs.Blocks.{need, over, tileWords, homeWords, homeAt, TileFull, HomeFull}
+use Rattle.words.specs.Blocks.{need, tileWords, homeWords, homeAt, TileFull, HomeFull}
 use Rattle.words.proofs.Over.{length-tile, length-home, tile-words, home-words}
 use Rattle.words.proofs.Reading.{tile-at, tile-behind, home-front, tile-full, home-full, over-behind, over-front}
 use Rattle.protocol.specs.Parts.{Words, Queue, Tile, ToMemory, FromMemory, Home, Bench, benchOf}

@@ -9,9 +9,10 @@ use native.Mathlib.Omega.{arith}
 use lib.Dec.{ltb, leb}
 use lib.ListN.{length, getD, set, take, drop, length-append, length-take, length-drop, drop-of-length-le}
 use lib.Seq.{drop-cons, set-at, take-suc, append-snoc, length-take-le, take-all, drop-at, take-at, drop-drop}
-use borrow.Author.Tests.{le-leb, lt-leb, leb-true, leb-false, ne-eqb}
+use borrow.Author.Tests.{leb-true, ne-eqb}
 use borrow.Rule.Slice.PartMut.{putMid}
-use Rattle.flit_writing.specs.Writing.{over, headerFlits, refusals, writeRefusal, flitsOf, writtenOf, bufferOf}
+use Rattle.lists.specs.Over.{over}
+use Rattle.flit_writing.specs.Writing.{headerFlits, refusals, writeRefusal, flitsOf, writtenOf, bufferOf}
 use Rattle.flit_reading.specs.Reading.{lowest}
 use Rattle.flit_reading.proofs.ReadLaws.{holds, rest-part}
 use Rattle.flit_table.specs.declared.Row.{Row}
@@ -19,17 +20,6 @@ use Rattle.flit_table.specs.Table.{rowOf, extra}
 use Rattle.flit_rules.specs.Rules.{known, lengthAllowed, portsListed, allowed}
 use Rattle.flit_words.specs.declared.Header.{Header}
 use Rattle.flit_words.specs.Words.{flit1Of, flit2Of, flit3Of}
-
--- the room test, without a sum that could wrap
-pub room-test : (room at n : ℕ) → at ≤ room → leb n (room - at) ≡ leb (at + n) room
-room-test room at n h = go (leb n (room - at)) refl
-  where
-    go : (b : Bool) → leb n (room - at) ≡ b → b ≡ leb (at + n) room
-    go true e = let l = leb-true n (room - at) e in sym (le-leb (at + n) room (omega arith))
-    go false e = let l = leb-false n (room - at) e in sym (lt-leb (at + n) room (omega arith))
-
-pub no-room : (room at n : ℕ) → room < at → false ≡ leb (at + n) room
-no-room room at n h = sym (lt-leb (at + n) room (omega arith))
 
 -- one word, and three, stored at the front
 pub store-one : (l : List ℕ) (a : ℕ) → 0 < length l → set l 0 a ≡ a ∷ drop 1 l

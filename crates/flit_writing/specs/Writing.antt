@@ -3,7 +3,8 @@ use mathlib.Core.Bool.{Bool, cond}
 use mathlib.Core.List.{List, [], _∷_, _++_}
 use Prim.Native.Nat.{ℕ, _+_}
 use lib.Dec.{eqb, ltb, leb}
-use lib.ListN.{length, take, drop}
+use lib.ListN.{length}
+use Rattle.lists.specs.Over.{over}
 use Rattle.flit_words.specs.declared.Header.{Header}
 use Rattle.flit_table.specs.declared.Row.{Row}
 use Rattle.flit_words.specs.Words.{flit1Of, flit2Of, flit3Of}
@@ -36,10 +37,6 @@ headerFlits three h length = flit1Of h length ∷ cond three (flit2Of h ∷ flit
 
 unfoldable pub flitsOf : Header → List ℕ → List ℕ
 flitsOf h words = headerFlits (rowOf (h .opcode) .three) h (extra (rowOf (h .opcode)) + length words) ++ words
-
--- a buffer with words written over it from a place on
-unfoldable pub over : List ℕ → ℕ → List ℕ → List ℕ
-over b at vs = take at b ++ (vs ++ drop (at + length vs) b)
 
 -- the answer, and the buffer after the call: a refusal leaves all of it
 unfoldable pub writtenOf : Header → ℕ → ℕ → ℕ → Written

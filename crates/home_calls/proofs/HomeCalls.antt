@@ -10,13 +10,14 @@ use lib.Dec.{eqb, ltb}
 use lib.ListN.{length, getD, set, drop, length-set}
 use lib.Seq.{getD-set-same, getD-set-other}
 use borrow.Author.Tests.{lt-ltb, le-ltb, ltb-true, ltb-false, eqb-true, eqb-false, ne-eqb}
+use Rattle.lists.specs.Over.{over}
 use Rattle.masks.specs.Mask.{has}
 use Rattle.words.specs.declared.Row.{Row}
 use Rattle.words.specs.declared.Pair.{Pair}
 use Rattle.words.specs.declared.TileBlock.{TileBlock}
 use Rattle.words.specs.declared.HomeBlock.{HomeBlock}
 use Rattle.words.specs.Blocks as blocks
-use Rattle.words.specs.Blocks.{need, over, homeAt, tileWords, TileFull}
+use Rattle.words.specs.Blocks.{need, homeAt, tileWords, TileFull}
 use Rattle.words.proofs.Reading.{tile-full}
 use Rattle.protocol.specs.Parts.{Words, Queue, ToMemory, FromMemory, Tile, tileOf, Line, Home, idle, awaitingLoad, awaitingOwner, awaitingAcks, awaitingStore, reading, writing, request, eviction, clearForStore, clearForEviction, benchOf, Call, taking, fromTile, memoryStep, memoryAck, homeEviction, refused}
 use Rattle.protocol.specs.Bench as rules

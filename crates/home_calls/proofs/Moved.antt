@@ -5,8 +5,9 @@ use mathlib.Core.List.{List}
 use native.Mathlib.Omega.{arith}
 use lib.ListN.{length, getD}
 use borrow.Author.Tests.{ne-eqb}
+use Rattle.lists.specs.Over.{over}
 use Rattle.words.specs.declared.HomeBlock.{HomeBlock}
-use Rattle.words.specs.Blocks.{over, rowAt, pairAt, homeAt, homeWords, pairWords}
+use Rattle.words.specs.Blocks.{rowAt, pairAt, homeAt, homeWords, pairWords}
 use Rattle.words.proofs.Reading.{pair-full}
 use Rattle.queue_words.specs.Queues.{pop}
 use Rattle.home_parts.specs.declared.HomeMove.{HomeMove}

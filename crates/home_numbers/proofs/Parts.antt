@@ -5,11 +5,13 @@ use mathlib.Core.List.{List, [], _∷_, _++_, append-assoc, append-nil}
 use native.Mathlib.Omega.{arith}
 use lib.ListN.{length, set, drop, length-append}
 use borrow.Author.Tests.{eq-eqb, ne-eqb}
+use Rattle.lists.specs.Over.{over}
+use Rattle.lists.proofs.OverLaws.{then-over}
 use Rattle.words.specs.declared.Row.{Row}
 use Rattle.words.specs.declared.Pair.{Pair}
 use Rattle.words.specs.declared.HomeBlock.{HomeBlock}
-use Rattle.words.specs.Blocks.{over, rowAt, pairAt, homeAt, rowWords, pairWords, homeWords, PairFull, HomeFull}
-use Rattle.words.proofs.Over.{sets-over, then-over, home-words, length-row, length-pair, length-home}
+use Rattle.words.specs.Blocks.{rowAt, pairAt, homeAt, rowWords, pairWords, homeWords, PairFull, HomeFull}
+use Rattle.words.proofs.Over.{sets-over, home-words, length-row, length-pair, length-home}
 use Rattle.words.proofs.Reading.{home-full, home-front, over-behind, over-front}
 use Rattle.codec.specs.Encode.{zeros, row}
 use Rattle.queue_words.specs.Queues.{push, pop}

@@ -2,9 +2,10 @@
 use Prim.Native.Nat.{ℕ}
 use mathlib.Core.Path.{_≡_}
 use mathlib.Core.List.{List}
+use Rattle.lists.specs.Over.{over}
 use Rattle.words.specs.declared.Row.{Row}
 use Rattle.words.specs.declared.HomeBlock.{HomeBlock}
-use Rattle.words.specs.Blocks.{over, homeAt, homeWords, HomeFull}
+use Rattle.words.specs.Blocks.{homeAt, homeWords, HomeFull}
 use Rattle.codec.specs.Encode.{row}
 use Rattle.queue_words.specs.Queues.{push, pop}
 use Rattle.home_parts.specs.declared.HomeMove.{HomeMove}

@@ -6,10 +6,11 @@ use native.Mathlib.Omega.{arith}
 use lib.ListN.{length, take, drop}
 use lib.Seq.{drop-at, length-take-le}
 use borrow.Author.Tests.{eq-eqb}
+use Rattle.lists.specs.Over.{over}
 use Rattle.flit_words.specs.declared.Header.{Header}
 use Rattle.flit_table.specs.Table.{rowOf, extra}
 use Rattle.flit_reading.specs.Reading.{readOf, dataOf, accepted}
-use Rattle.flit_writing.specs.Writing.{writeRefusal, writtenOf, bufferOf, flitsOf, over}
+use Rattle.flit_writing.specs.Writing.{writeRefusal, writtenOf, bufferOf, flitsOf}
 use Rattle.round_trips.proofs.RoundTrip.{write-read, write-data}
 use Rattle.words.specs.declared.Row.{Row}
 use Rattle.message_fields.specs.Fields.{headerOf, fieldsOf, wordsOf, kept, Carried}

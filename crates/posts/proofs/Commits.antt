@@ -7,9 +7,10 @@ use native.Mathlib.Omega.{arith}
 use lib.Dec.{eqb}
 use lib.ListN.{length, getD, drop}
 use borrow.Author.Tests.{eqb-true, eqb-false}
+use Rattle.lists.specs.Over.{over}
 use Rattle.masks.specs.Mask.{has}
 use Rattle.words.specs.declared.HomeBlock.{HomeBlock}
-use Rattle.words.specs.Blocks.{need, over, homeAt, homeWords, rowAt, pairAt, pairWords}
+use Rattle.words.specs.Blocks.{need, homeAt, homeWords, rowAt, pairAt, pairWords}
 use Rattle.protocol.specs.Parts.{Tile, Call}
 use Rattle.protocol.specs.Bench.{step}
 use Rattle.codec.specs.Decode.{decoded}

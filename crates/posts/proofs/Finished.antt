@@ -6,11 +6,12 @@ use mathlib.Core.List.{List, [], _∷_, _++_, map}
 use mathlib.Core.Option.{some, Option·map}
 use native.Mathlib.Omega.{arith}
 use lib.ListN.{length}
+use Rattle.lists.specs.Over.{over}
 use Rattle.masks.specs.Mask.{has, add}
 use Rattle.masks.proofs.MaskLaws.{has-none}
 use Rattle.words.specs.declared.Row.{Row}
 use Rattle.words.specs.declared.HomeBlock.{HomeBlock}
-use Rattle.words.specs.Blocks.{over, homeWords, HomeFull}
+use Rattle.words.specs.Blocks.{homeWords, HomeFull}
 use Rattle.protocol.specs.Parts.{Words, Queue, Forward, ToMemory, FromMemory, Message, onNoc2, toMemory, fromMemory, Tile, Home, Bench, benchOf, refused, accepted}
 use Rattle.protocol.specs.Home.{range, among, members}
 use Rattle.protocol.specs.Bench.{sent, kindOf}

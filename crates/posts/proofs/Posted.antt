@@ -8,13 +8,14 @@ use native.Mathlib.Omega.{arith}
 use native.Mathlib.Numerals.{add-one}
 use lib.ListN.{length, set, length-set}
 use lib.Seq.{getD-set-other}
+use Rattle.lists.specs.Over.{over}
 use Rattle.masks.specs.Mask.{has}
 use Rattle.words.specs.declared.Row.{Row}
 use Rattle.words.specs.declared.Pair.{Pair}
 use Rattle.words.specs.declared.TileBlock.{TileBlock}
 use Rattle.words.specs.declared.HomeBlock.{HomeBlock}
 use Rattle.words.specs.Blocks as blocks
-use Rattle.words.specs.Blocks.{over, tileWords, TileFull}
+use Rattle.words.specs.Blocks.{tileWords, TileFull}
 use Rattle.protocol.specs.Parts.{Words, Queue, empty, one, two, Forward, ToMemory, FromMemory, Message, onNoc2, Tile, tileOf, Home, Bench, benchOf}
 use Rattle.protocol.specs.Home.{range, among}
 use Rattle.protocol.specs.Bench as rules

@@ -6,7 +6,8 @@ use mathlib.Core.List.{List}
 use mathlib.Core.Path.{_≡_}
 use lib.Dec.{eqb}
 use lib.ListN.{length}
-use Rattle.words.specs.Blocks.{rowAt, pairAt, homeAt, pairWords, homeWords, over, HomeFull}
+use Rattle.lists.specs.Over.{over}
+use Rattle.words.specs.Blocks.{rowAt, pairAt, homeAt, pairWords, homeWords, HomeFull}
 use Rattle.codec.specs.Encode.{zeros}
 use Rattle.queue_words.specs.Queues.{pop}
 use Rattle.home_parts.specs.declared.HomeMove.{HomeMove}

@@ -6,10 +6,12 @@ use native.Mathlib.Omega.{arith}
 use lib.ListN.{length, getD, set, take, drop, length-append, length-take, length-drop, length-set, take-append-drop}
 use lib.Seq.{drop-drop, take-take, length-take-le, drop-at, take-set-lt, drop-set-add, take-set-le, drop-set-lt}
 use borrow.Author.Tests.{eq-eqb, ne-eqb}
+use Rattle.lists.specs.Over.{over}
+use Rattle.lists.proofs.OverLaws.{length-over, over-over}
 use Rattle.words.specs.declared.Row.{Row}
 use Rattle.words.specs.declared.Pair.{Pair}
-use Rattle.words.specs.Blocks.{over, rowAt, pairAt, rowWords, pairWords, PairFull}
-use Rattle.words.proofs.Over.{length-over, over-over, row-words, write-pair}
+use Rattle.words.specs.Blocks.{rowAt, pairAt, rowWords, pairWords, PairFull}
+use Rattle.words.proofs.Over.{row-words, write-pair}
 use Rattle.words.proofs.Reading.{row-full}
 use Rattle.codec.specs.Encode.{noRow}
 use Rattle.queue_words.specs.Queues.{push, pop}

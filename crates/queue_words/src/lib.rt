@@ -2,7 +2,8 @@
 ghost use mathlib.Core.Path.{_≡_};
 ghost use Prim.Native.Nat.{_+_, _≤_};
 ghost use lib.ListN.{length};
-ghost use Rattle.words.specs.Blocks.{over, pairAt, pairWords, PairFull};
+ghost use Rattle.lists.specs.Over.{over};
+ghost use Rattle.words.specs.Blocks.{pairAt, pairWords, PairFull};
 ghost use Rattle.codec.specs.Encode.{zeros, row};
 ghost use Rattle.queue_words.specs.Queues.{room, push, pop};
 use words::Row;

@@ -8,13 +8,14 @@ use lib.Dec.{eqb, leb}
 use lib.ListN.{length, getD, take, drop}
 use lib.Seq.{drop-at, length-take-le}
 use borrow.Author.Tests.{eq-eqb, ne-eqb, leb-true}
+use Rattle.lists.specs.Over.{over}
 use Rattle.flit_words.specs.declared.Header.{Header}
 use Rattle.flit_words.specs.Words.{headerOf}
 use Rattle.flit_table.specs.Table.{rowOf, extra}
 use Rattle.flit_reading.specs.declared.Read.{Read}
 use Rattle.flit_writing.specs.declared.Written.{Written}
 use Rattle.flit_reading.specs.Reading.{rowAt, headerAt, readRefusal, answer, readOf, dataOf}
-use Rattle.flit_writing.specs.Writing.{refusals, writeRefusal, flitsOf, over, writtenOf, bufferOf}
+use Rattle.flit_writing.specs.Writing.{refusals, writeRefusal, flitsOf, writtenOf, bufferOf}
 use Rattle.round_trips.specs.Rounds.{copyRefusal, copiedOf, copyBuffer, echoOf}
 use Rattle.flit_reading.proofs.ReadLaws.{holds, read-accepted, refusal-of, data-length}
 use Rattle.round_trips.proofs.RoundTrip.{read-write, rewrite, write-read}

@@ -4,12 +4,13 @@ use mathlib.Core.List.{List}
 use Prim.Native.Nat.{ℕ, _+_}
 use lib.Dec.{eqb, leb}
 use lib.ListN.{length, take}
+use Rattle.lists.specs.Over.{over}
 use Rattle.flit_words.specs.declared.Header.{Header}
 use Rattle.flit_table.specs.Table.{rowOf, extra}
 use Rattle.flit_reading.specs.declared.Read.{Read}
 use Rattle.flit_writing.specs.declared.Written.{Written}
 use Rattle.flit_reading.specs.Reading.{readOf, readRefusal, accepted, refused}
-use Rattle.flit_writing.specs.Writing.{writeRefusal, over}
+use Rattle.flit_writing.specs.Writing.{writeRefusal}
 
 -- the refusal of copying the front message of s to a place: that of the read, or 17 where its flits do not fit
 unfoldable pub copyRefusal : List ℕ → ℕ → ℕ → ℕ

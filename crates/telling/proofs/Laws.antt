@@ -7,7 +7,7 @@ use native.Mathlib.Omega.{arith}
 use lib.ListN.{length, drop, set, getD}
 use lib.Seq.{paste}
 use borrow.Author.Tests.{le-leb, lt-leb}
-use Rattle.words.specs.Blocks.{over}
+use Rattle.lists.specs.Over.{over}
 use Rattle.words.proofs.Over.{write-turn, write-end}
 use Rattle.telling.specs.Told.{told}
 

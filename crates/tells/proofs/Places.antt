@@ -7,9 +7,10 @@ use lib.Dec.{eqb}
 use mathlib.Core.Bool.{Bool, true, false, cond}
 use lib.ListN.{length, getD, take, drop, length-append, take-append-drop}
 use lib.Seq.{drop-drop, take-add}
+use Rattle.lists.specs.Over.{over}
 use Rattle.words.specs.declared.Row.{Row}
 use Rattle.words.specs.declared.Pair.{Pair}
-use Rattle.words.specs.Blocks.{over, rowAt, pairAt, tileAt, homeAt, rowWords, pairWords, tileWords, homeWords, PairFull}
+use Rattle.words.specs.Blocks.{rowAt, pairAt, tileAt, homeAt, rowWords, pairWords, tileWords, homeWords, PairFull}
 use Rattle.words.proofs.Over.{home-words, length-home, join, row-words, pair-words, length-row, length-pair}
 use Rattle.words.proofs.Reading.{row-full, pair-full, home-full, home-front, over-behind}
 use Rattle.codec.specs.Encode.{noRow}

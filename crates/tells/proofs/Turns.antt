@@ -5,11 +5,12 @@ use mathlib.Core.Bool.{Bool, true, false, _&&_}
 use mathlib.Core.List.{List}
 use native.Mathlib.Omega.{arith}
 use native.Mathlib.Numerals.{add-one}
+use Rattle.lists.specs.Over.{over}
 use Rattle.masks.specs.Mask.{has}
 use Rattle.find_first.specs.Next.{next}
 use Rattle.find_first.proofs.NextLaws.{skip-to-next}
 use Rattle.words.specs.declared.Row.{Row}
-use Rattle.words.specs.Blocks.{tileAt, over, tileWords}
+use Rattle.words.specs.Blocks.{tileAt, tileWords}
 use Rattle.queue_words.specs.Queues.{room}
 use Rattle.tells.specs.Tells.{oneRoom, rooms, toldTile, tellOne, tellAll}
 

@@ -3,10 +3,11 @@
 use Prim.Native.Nat.{ℕ, suc, _+_}
 use mathlib.Core.Bool.{Bool, cond, true, _&&_}
 use mathlib.Core.List.{List}
+use Rattle.lists.specs.Over.{over}
 use Rattle.masks.specs.Mask.{has}
 use Rattle.words.specs.declared.Row.{Row}
 use Rattle.words.specs.declared.TileBlock.{TileBlock}
-use Rattle.words.specs.Blocks.{tileAt, tileWords, over}
+use Rattle.words.specs.Blocks.{tileAt, tileWords}
 use Rattle.queue_words.specs.Queues.{room, push}
 use Rattle.tile_parts.specs.Steps.{headed}
 

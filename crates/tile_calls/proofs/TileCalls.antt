@@ -9,12 +9,13 @@ use lib.Dec.{eqb, ltb}
 use lib.ListN.{length, getD, set, drop, length-set}
 use lib.Seq.{getD-set-same, set-set}
 use borrow.Author.Tests.{lt-ltb, le-ltb, eq-eqb}
+use Rattle.lists.specs.Over.{over}
 use Rattle.masks.specs.Mask.{add, add64}
 use Rattle.masks.proofs.MaskLaws.{has-add}
 use Rattle.words.specs.declared.Row.{Row}
 use Rattle.words.specs.declared.TileBlock.{TileBlock}
 use Rattle.words.specs.Blocks as blocks
-use Rattle.words.specs.Blocks.{need, over, tileWords, homeAt, TileFull}
+use Rattle.words.specs.Blocks.{need, tileWords, homeAt, TileFull}
 use Rattle.protocol.specs.Parts.{Words, Queue, empty, one, two, shared, exclusive, modified, Cache, invalid, valid, Waiting, nothing, forLoad, forStore, Request, Forward, Reply, Message, onNoc1, onNoc2, onNoc3, toMemory, fromMemory, ToMemory, FromMemory, Tile, tileOf, Home, Bench, benchOf, load, store, evict, toTile, Result, refused, accepted}
 use Rattle.protocol.specs.Tile as rules
 use Rattle.protocol.specs.Bench as bench

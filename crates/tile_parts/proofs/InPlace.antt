@@ -6,10 +6,11 @@ use native.Mathlib.Omega.{arith}
 use native.Mathlib.Nat.{add-zero}
 use lib.ListN.{length, getD, set, take, drop, length-set}
 use lib.Seq.{length-take-le, getD-take, getD-drop}
+use Rattle.lists.specs.Over.{over}
 use Rattle.words.specs.declared.Row.{Row}
 use Rattle.words.specs.declared.Pair.{Pair}
 use Rattle.words.specs.declared.TileBlock.{TileBlock}
-use Rattle.words.specs.Blocks.{over, rowAt, pairAt, tileAt, rowWords, pairWords, tileWords, PairFull}
+use Rattle.words.specs.Blocks.{rowAt, pairAt, tileAt, rowWords, pairWords, tileWords, PairFull}
 use Rattle.words.proofs.Over.{join, row-words, pair-words, tile-words, length-pair, length-tile}
 use Rattle.words.proofs.Reading.{row-full, pair-full, tile-full, tile-at, over-behind, over-front}
 use Rattle.codec.specs.Encode.{row}

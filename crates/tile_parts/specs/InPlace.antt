@@ -3,9 +3,10 @@ use Prim.Native.Nat.{ℕ}
 use mathlib.Core.Path.{_≡_}
 use mathlib.Core.List.{List}
 use lib.ListN.{set}
+use Rattle.lists.specs.Over.{over}
 use Rattle.words.specs.declared.Row.{Row}
 use Rattle.words.specs.declared.TileBlock.{TileBlock}
-use Rattle.words.specs.Blocks.{over, tileAt, tileWords, TileFull}
+use Rattle.words.specs.Blocks.{tileAt, tileWords, TileFull}
 use Rattle.codec.specs.Encode.{zeros, row}
 use Rattle.queue_words.specs.Queues.{push, pop}
 use Rattle.tile_parts.specs.declared.TileStep.{TileStep}

@@ -3,38 +3,21 @@ use Prim.Native.Nat.{ℕ, suc, _+_, _-_, _≤_, _<_, min}
 use mathlib.Core.Path.{_≡_, refl, ap, sym, _∙_, subst}
 use mathlib.Core.List.{List, [], _∷_, _++_, append-assoc}
 use native.Mathlib.Omega.{arith}
-use native.Mathlib.Nat.{add-assoc, add-zero}
+use native.Mathlib.Nat.{add-assoc}
 use native.Mathlib.Numerals.{add-one, towards-suc}
-use lib.ListN.{length, getD, set, take, drop, length-append, length-take, length-drop, length-set, take-append-drop}
-use lib.Seq.{sets, sets-eq, paste, paste-suc, drop-append-add, drop-drop, drop-cons, length-take-le, getD-drop, take-at, take-add, take-all, take-length, take-suc, take-suc-set}
+use lib.ListN.{length, getD, set, take, drop, length-append, length-drop}
+use lib.Seq.{sets, sets-eq, paste, paste-suc, drop-drop, drop-cons, getD-drop, take-add, take-all, take-length, take-suc, take-suc-set}
+use Rattle.lists.specs.Over.{over}
+use Rattle.lists.proofs.OverLaws.{then-over}
 use Rattle.words.specs.declared.Row.{Row}
 use Rattle.words.specs.declared.Pair.{Pair}
 use Rattle.words.specs.declared.TileBlock.{TileBlock}
 use Rattle.words.specs.declared.HomeBlock.{HomeBlock}
-use Rattle.words.specs.Blocks.{over, rowAt, pairAt, tileAt, homeAt, rowWords, pairWords, tileWords, homeWords, PairFull, TileFull, HomeFull}
-
--- the same length
-pub length-over : (l : List ℕ) (i : ℕ) (vs : List ℕ) → i + length vs ≤ length l → length (over l i vs) ≡ length l
-unfolding over
-length-over l i vs h = simp (length-append, length-take, length-drop) (omega arith)
+use Rattle.words.specs.Blocks.{rowAt, pairAt, tileAt, homeAt, rowWords, pairWords, tileWords, homeWords, PairFull, TileFull, HomeFull}
 
 pub sets-over : (l : List ℕ) (i : ℕ) (vs : List ℕ) → i + length vs ≤ length l → sets l i vs ≡ over l i vs
 unfolding over
 sets-over l i vs h = sets-eq vs l i h ∙ append-assoc (take i l) vs (drop (i + length vs) l)
-
--- two pieces one after the other are one
-pub over-over : (l : List ℕ) (i j : ℕ) (xs ys : List ℕ) → i ≤ length l → j ≡ i + length xs → over (over l i xs) j ys ≡ over l i (xs ++ ys)
-unfolding over
-over-over l i j xs ys h e =
-    let A : List ℕ = take i l in
-    let D : List ℕ = drop (i + length xs) l in
-    let n : length (A ++ xs) ≡ j = simp length-append (ap (λ (k : ℕ). k + length xs) (length-take-le i l h) ∙ sym e) in
-    let back : drop (j + length ys) (A ++ xs ++ D) ≡ drop (i + length (xs ++ ys)) l =
-    ap (λ (k : ℕ). drop (k + length ys) (A ++ xs ++ D)) (sym n) ∙ drop-append-add (A ++ xs) D (length ys) ∙ drop-drop (length ys) (i + length xs) l
-    ∙ ap (λ (k : ℕ). drop k l) (add-assoc i (length xs) (length ys) ∙ ap (λ (k : ℕ). i + k) (sym (length-append xs ys))) in
-    rw (← append-assoc A xs D) (ap (λ (k : List ℕ). k ++ (ys ++ drop (j + length ys) (A ++ xs ++ D))) (take-at (A ++ xs) D j n)
-    ∙ ap (λ (k : List ℕ). A ++ xs ++ (ys ++ k)) back ∙ append-assoc A xs (ys ++ drop (i + length (xs ++ ys)) l)
-    ∙ ap (λ (k : List ℕ). A ++ k) (sym (append-assoc xs ys (drop (i + length (xs ++ ys)) l))))
 
 -- n numbers read one after the other from place j
 abbrev pub reads : ℕ → List ℕ → ℕ → List ℕ
@@ -108,10 +91,6 @@ four-stores l i a b c d h = simp towards-suc (sets-over l i (a ∷ b ∷ c ∷ d
 pub length-row : (r : Row) → length (r .words) ≡ 8 → length (rowWords r) ≡ 12
 unfolding rowWords
 length-row r n = rw n
-
--- a list written over in pieces, each on what the last one left
-pub then-over : (l m n : List ℕ) (i j : ℕ) (xs ys : List ℕ) → i ≤ length l → j ≡ i + length xs → m ≡ over l i xs → n ≡ over m j ys → n ≡ over l i (xs ++ ys)
-then-over l m n i j xs ys h e p q = q ∙ ap (λ (x : List ℕ). over x j ys) p ∙ over-over l i j xs ys h e
 
 pub write-row : (l l1 l2 : List ℕ) (i : ℕ) (r : Row) → i + 12 ≤ length l → l1 ≡ over l i (r .n0 ∷ r .n1 ∷ r .n2 ∷ r .n3 ∷ []) → l2 ≡ over l1 (i + 4) (r .words) → l2 ≡ over l i (rowWords r)
 unfolding rowWords

@@ -6,11 +6,12 @@ use native.Mathlib.Omega.{arith}
 use native.Mathlib.Nat.{add-assoc, zero-add}
 use lib.ListN.{length, getD, take, drop, length-append, length-take, length-drop}
 use lib.Seq.{take-append-add, drop-append-add, getD-append-add, take-at, drop-at}
+use Rattle.lists.specs.Over.{over}
 use Rattle.words.specs.declared.Row.{Row}
 use Rattle.words.specs.declared.Pair.{Pair}
 use Rattle.words.specs.declared.TileBlock.{TileBlock}
 use Rattle.words.specs.declared.HomeBlock.{HomeBlock}
-use Rattle.words.specs.Blocks.{over, rowAt, pairAt, tileAt, homeAt, rowWords, pairWords, tileWords, homeWords, PairFull, TileFull, HomeFull}
+use Rattle.words.specs.Blocks.{rowAt, pairAt, tileAt, homeAt, rowWords, pairWords, tileWords, homeWords, PairFull, TileFull, HomeFull}
 use Rattle.words.proofs.Over.{length-row, length-pair, length-tile}
 
 -- behind a list A, everything is read at places further on

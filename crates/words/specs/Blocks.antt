@@ -40,10 +40,6 @@ tileWords x = rowWords (x .head) ++ (pairWords (x .noc1) ++ (pairWords (x .noc2)
 unfoldable pub homeWords : HomeBlock → List ℕ
 homeWords x = x .tiles ∷ x .phase ∷ rowWords (x .line) ++ (rowWords (x .control) ++ (pairWords (x .out) ++ pairWords (x .back)))
 
--- a list with the words vs written over it from place i
-unfoldable pub over : List ℕ → ℕ → List ℕ → List ℕ
-over l i vs = take i l ++ (vs ++ drop (i + length vs) l)
-
 -- the rows of a block hold eight words each
 pub record PairFull (p : Pair) : Type 0 where
   pub first : length (p .a .words) ≡ 8

@@ -4,7 +4,8 @@ ghost use mathlib.Core.Path.{_≡_};
 ghost use Prim.Native.Nat.{_+_, _≤_};
 ghost use lib.ListN.{length, take, drop};
 ghost use mathlib.Core.List.{_∷_, []};
-ghost use Rattle.words.specs.Blocks.{rowAt, over, rowWords};
+ghost use Rattle.lists.specs.Over.{over};
+ghost use Rattle.words.specs.Blocks.{rowAt, rowWords};
 
 pub struct Row {
     pub n0: u64,

@@ -5,10 +5,11 @@ use mathlib.Core.List.{List}
 use native.Mathlib.Omega.{arith}
 use borrow.Author.Needs.{needs}
 use lib.ListN.{length}
+use Rattle.lists.specs.Over.{over}
 use Rattle.masks.specs.Mask.{has}
 use Rattle.find_first.specs.Next.{next}
 use Rattle.find_first.proofs.NextLaws.{next-in, next-from}
-use Rattle.words.specs.Blocks.{tileAt, over, tileWords}
+use Rattle.words.specs.Blocks.{tileAt, tileWords}
 use Rattle.tells.specs.Tells.{toldTile, tellAll}
 use Rattle.tells.proofs.Turns.{tell-skip, tell-turn, tell-end}
 use Rattle.tells.proofs.tell_all.Statement.{statement}
