@@ -1,5 +1,6 @@
 //! `benchmark [ROUNDS]`: the archive of the proved crates against Rust, both built for release, in one run. The two sides take turns
 //! on the same inputs; each number is the median over the rounds. A ratio is the reference's speed by Rust's: 1 is as fast.
+//! All that is measured has its turn in each of nine passes, so that a busy second of the machine is in few rounds of each.
 
 use differential::calls::{next_call, Style};
 use differential::flits::{model_read, of_words, to_words};
@@ -35,13 +36,27 @@ fn median(mut list: Vec<f64>) -> f64 {
     list[list.len() / 2]
 }
 
-/// Nanoseconds by item of each side, and the median of the rounds' ratios: of the first side's speed by the second's.
-struct Measured {
-    ns: Vec<f64>,
-    ratio: f64,
+/// Nanoseconds by item of each round, by side.
+struct Times(Vec<Vec<f64>>);
+
+impl Times {
+    fn ns(&self, side: usize) -> f64 {
+        median(self.0[side].clone())
+    }
+
+    /// The median of the rounds' ratios: of the first side's speed by the second's.
+    fn ratio(&self) -> f64 {
+        median(self.0[0].iter().zip(&self.0[1]).map(|(reference, rust)| rust / reference).collect())
+    }
+
+    fn add(&mut self, more: Times) {
+        for (side, times) in self.0.iter_mut().zip(more.0) {
+            side.extend(times);
+        }
+    }
 }
 
-fn measure(rounds: usize, items: usize, sides: &mut [&mut dyn FnMut()]) -> Measured {
+fn measure(rounds: usize, items: usize, sides: &mut [&mut dyn FnMut()]) -> Times {
     let mut times = vec![vec![]; sides.len()];
     for round in 0..=rounds {
         let count = sides.len();
@@ -54,13 +69,12 @@ fn measure(rounds: usize, items: usize, sides: &mut [&mut dyn FnMut()]) -> Measu
             }
         }
     }
-    let ratio = median(times[0].iter().zip(&times[1]).map(|(reference, rust)| rust / reference).collect());
-    Measured { ns: times.into_iter().map(median).collect(), ratio }
+    Times(times)
 }
 
-fn print(what: &str, m: &Measured) {
-    let more: Vec<String> = m.ns[2..].iter().map(|ns| format!("{ns:>10.1}")).collect();
-    println!("{what:<28} {:>10.1} {:>10.1} {:>7.2} {}", m.ns[0], m.ns[1], m.ratio, more.join(" "));
+fn print(what: &str, t: &Times) {
+    let more: Vec<String> = (2..t.0.len()).map(|side| format!("{:>10.1}", t.ns(side))).collect();
+    println!("{what:<28} {:>10.1} {:>10.1} {:>7.2} {}", t.ns(0), t.ns(1), t.ratio(), more.join(" "));
 }
 
 /// A recording of messages of every type, and how many they are.
@@ -77,7 +91,7 @@ fn recording(r: &mut Random) -> (Vec<u64>, usize) {
     (flits, count)
 }
 
-fn read(rounds: usize) {
+fn read(rounds: usize) -> Times {
     let (flits, count) = recording(&mut Random(1));
     let mut out = [0; 21];
     let mut first = || {
@@ -99,13 +113,10 @@ fn read(rounds: usize) {
         }
         assert_eq!(at as usize, flits.len());
     };
-    let m = measure(rounds, count, &mut [&mut first, &mut second]);
-    print("a message read", &m);
-    let flit = flits.len() as f64 / count as f64;
-    println!("    flits read a second: {:.0} million, {:.0} million", 1e3 * flit / m.ns[0], 1e3 * flit / m.ns[1]);
+    measure(rounds, count, &mut [&mut first, &mut second])
 }
 
-fn write(rounds: usize) {
+fn write(rounds: usize) -> Times {
     let mut r = Random(2);
     let list: Vec<([u64; 18], Vec<u64>)> = (0..2_000)
         .map(|_| {
@@ -134,7 +145,7 @@ fn write(rounds: usize) {
             black_box((&other, &told));
         }
     };
-    print("a message written", &measure(rounds, list.len(), &mut [&mut first, &mut second]));
+    measure(rounds, list.len(), &mut [&mut first, &mut second])
 }
 
 /// A list of calls that moves a bench on, some refused.
@@ -158,7 +169,7 @@ fn traffic(tiles: u64, count: usize) -> (Vec<Call>, [u64; 8]) {
 }
 
 /// Calls at a tile count, by the reference, in place, and by the model of tests/model.
-fn calls(rounds: usize, tiles: u64) -> Measured {
+fn calls(rounds: usize, tiles: u64) -> Times {
     let (list, memory) = traffic(tiles, 2_000);
     let fresh = {
         let mut words = vec![0; need(tiles)];
@@ -187,13 +198,13 @@ fn calls(rounds: usize, tiles: u64) -> Measured {
             black_box(words::call(c, call));
         }
     };
-    let m = measure(rounds, list.len(), &mut [&mut first, &mut second, &mut third]);
+    let times = measure(rounds, list.len(), &mut [&mut first, &mut second, &mut third]);
     assert!(lent[0] == lent[1] && lent[1] == lent[2]);
-    m
+    times
 }
 
 /// The test of well-formedness alone, on a bench in traffic.
-fn formed(rounds: usize, tiles: u64) -> Measured {
+fn formed(rounds: usize, tiles: u64) -> Times {
     let (list, memory) = traffic(tiles, 1_000);
     let mut words = vec![0; need(tiles)];
     words::start(&mut words, tiles, memory);
@@ -208,7 +219,7 @@ fn formed(rounds: usize, tiles: u64) -> Measured {
 }
 
 /// A whole job, bytes in, listing out; by call.
-fn whole_job(rounds: usize, tiles: u64) -> Measured {
+fn whole_job(rounds: usize, tiles: u64) -> Times {
     let (list, memory) = traffic(tiles, 2_000);
     let in_bytes = |call: &Call| match *call {
         Call::Load { tile, word } | Call::Store { tile, word, .. } => tile < 256 && word < 256,
@@ -224,25 +235,41 @@ fn whole_job(rounds: usize, tiles: u64) -> Measured {
     let mut first = || reference::run_job(black_box(&bytes), &mut lent, &mut text, &mut one);
     let mut second = || listing::run(black_box(&bytes), &mut other, &mut two);
     let mut third = || three = job::run(black_box(&bytes));
-    let m = measure(rounds, count, &mut [&mut first, &mut second, &mut third]);
+    let times = measure(rounds, count, &mut [&mut first, &mut second, &mut third]);
     assert!(one == two && two == three.as_bytes());
-    m
+    times
+}
+
+const COUNTS: [u64; 3] = [1, 8, 64];
+
+/// All that is measured, once: flits read and written, then calls, the test and jobs at each tile count.
+fn pass(rounds: usize) -> Vec<Times> {
+    let mut list = vec![read(rounds), write(rounds)];
+    for at in [calls, formed, whole_job] {
+        list.extend(COUNTS.map(|tiles| at(rounds, tiles)));
+    }
+    list
 }
 
 fn main() {
-    let rounds = std::env::args().nth(1).map_or(41, |n| n.parse().expect("a number of rounds"));
-    println!("{:<28} {:>10} {:>10} {:>7} {:>10}", "ns (medians of the rounds)", "reference", "Rust", "ratio", "model");
-    read(rounds);
-    write(rounds);
-    let counts = [1, 8, 64];
-    let growth = |what: &str, list: [Measured; 3]| {
-        for (tiles, m) in counts.iter().zip(&list) {
-            print(&format!("{what}, T = {tiles}"), m);
+    let rounds = std::env::args().nth(1).map_or(9, |n| n.parse().expect("a number of rounds"));
+    let mut all = pass(rounds);
+    for _ in 1..9 {
+        for (times, more) in all.iter_mut().zip(pass(rounds)) {
+            times.add(more);
         }
-        let per_tile = |side: usize| (list[2].ns[side] - list[0].ns[side]) / 63.0;
+    }
+    println!("{:<28} {:>10} {:>10} {:>7} {:>10}", "ns (medians of the rounds)", "reference", "Rust", "ratio", "model");
+    print("a message read", &all[0]);
+    let (flits, count) = recording(&mut Random(1));
+    let flit = flits.len() as f64 / count as f64;
+    println!("    flits read a second: {:.0} million, {:.0} million", 1e3 * flit / all[0].ns(0), 1e3 * flit / all[0].ns(1));
+    print("a message written", &all[1]);
+    for (what, list) in ["a bench call", "well formed", "a job, by call"].iter().zip(all[2..].chunks(3)) {
+        for (tiles, times) in COUNTS.iter().zip(list) {
+            print(&format!("{what}, T = {tiles}"), times);
+        }
+        let per_tile = |side: usize| (list[2].ns(side) - list[0].ns(side)) / 63.0;
         println!("    for each tile more: {:.1}, {:.1}, {:.1}", per_tile(0), per_tile(1), per_tile(2));
-    };
-    growth("a bench call", counts.map(|tiles| calls(rounds, tiles)));
-    growth("well formed", counts.map(|tiles| formed(rounds, tiles)));
-    growth("a job, by call", counts.map(|tiles| whole_job(rounds, tiles)));
+    }
 }
