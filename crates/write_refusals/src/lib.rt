@@ -8,13 +8,6 @@ use flit_rules::Row;
 use flit_words::Header;
 use front_parts::either;
 
-// n flits fit from `at` on into a buffer of `room`.
-fn fits_at(room: usize, at: usize, n: usize) -> bool
-    ensures { λ r. ⌜ r ≡ leb (at + n) room ⌝ }
-{
-    if at <= room { n <= room - at } else { false }
-}
-
 // The refusal of a message with `count` data words at a place of a buffer of `room` flits.
 pub fn write_refusal(row: Row, h: Header, count: usize, room: usize, at: usize) -> u64
     requires { ⌜ count < 2 ^ 60 ⌝ }
@@ -26,7 +19,7 @@ pub fn write_refusal(row: Row, h: Header, count: usize, room: usize, at: usize) 
     let long = type_tests::length_allowed(row, length);
     let ports = rule_tests::ports_listed(row, h);
     let allowed = field_tests::fields_allowed(row, 0 < count, h);
-    let inside = fits_at(room, at, n as usize);
+    let inside = lists::room(room, at, n as usize);
     let from17 = either(inside, 0, 17);
     let from16 = either(allowed, from17, 16);
     let from14 = either(ports, from16, 14);

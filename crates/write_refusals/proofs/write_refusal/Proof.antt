@@ -23,7 +23,7 @@ returns c =
     (c .before .before .before .before .before .before .before .before .length-allowed .ensures)
     (c .before .before .before .before .before .before .before .ports-listed .ensures)
     (c .before .before .before .before .before .before .fields-allowed .ensures)
-    (c .before .before .before .before .before .fits-at .ensures)
+    (c .before .before .before .before .before .room .ensures)
     (c .before .before .before .before .either2 .ensures)
     (c .before .before .before .either3 .ensures)
     (c .before .before .either4 .ensures)
