@@ -22,15 +22,14 @@ use Rattle.words.proofs.Reading.{tile-full}
 use Rattle.protocol.specs.Parts.{Words, Queue, ToMemory, FromMemory, Tile, tileOf, Line, Home, idle, awaitingLoad, awaitingOwner, awaitingAcks, awaitingStore, reading, writing, request, eviction, clearForStore, clearForEviction, benchOf, Call, taking, fromTile, memoryStep, memoryAck, homeEviction, refused}
 use Rattle.protocol.specs.Bench as rules
 use Rattle.protocol.specs.Bench.{freshTile, tileAt, step, front, rest, noc1, noc3, popNoc1, popNoc3, fromTileOn, takingOn, takeFrom, arbitrate}
-use Rattle.codec.specs.Encode.{row, zeros, encRequest, encForward, encReply, encQueue, encTile, encHome}
+use Rattle.codec.specs.Encode.{encRequest, encForward, encReply, encQueue, encTile, encHome}
 use Rattle.codec.specs.Decode.{decTiles, decoded, benchFrom, decHome, decLine, decQueue, decToMemory, decFromMemory, isSet}
 use Rattle.codec.proofs.Canonical.{home-canonical}
 use Rattle.queue_words.specs.Queues.{room, pop}
 use Rattle.tile_parts.specs.Steps.{headed}
-use Rattle.tile_steps.proofs.Rules.{rest-queue}
+use Rattle.tile_steps.proofs.Rules.{request-kind, reply-kind, rest-queue}
 use Rattle.home_parts.specs.declared.HomeStep.{HomeStep}
 use Rattle.home_parts.specs.declared.HomeNumbers.{HomeNumbers}
-use Rattle.home_parts.specs.declared.HomeMove.{HomeMove}
 use Rattle.home_parts.specs.Moves as moves
 use Rattle.home_parts.specs.Numbers as numbers
 use Rattle.home_steps.specs.Rules.{HomeResult, spread, encStep, encFront, Sends, HomeIn, takenHome, acceptedHome, steppedHome, ackedHome, evictedHome}
@@ -44,7 +43,8 @@ use Rattle.call_tags.specs.Tags.{homeCall}
 use Rattle.answers.specs.Answers.{refusal}
 use Rattle.round_robin.specs.Ready.{readyFrom, chosen}
 use Rattle.tells.specs.Tells.{rooms}
-use Rattle.tells.proofs.Places.{pop-full, over-noc1, over-noc3}
+use Rattle.tile_numbers.proofs.InPlace.{put-noc1, put-noc3}
+use Rattle.tells.proofs.Places.{pop-full}
 use Rattle.posts.specs.Post.{popped, answering, Committed}
 use Rattle.arbitration.specs.declared.Turn.{Turn}
 use Rattle.arbitration.specs.Taken.{refusing, takeAt, takingTurn}
@@ -193,11 +193,11 @@ module _ (l : List ℕ) (h : wellFormed l ≡ true) where
   -- a tile without the front of a queue
   pop1 : (x : Tile) → popped1 (encTile x) ≡ encTile (popNoc1 x)
   unfolding popped1 encTile popNoc1
-  pop1 (tileOf c p q1 q2 q3) = ap (λ (z : Pair). headed (encTile (tileOf c p q1 q2 q3) .head) z (encQueue encForward q2) (encQueue encReply q3)) (rest-queue encRequest q1)
+  pop1 (tileOf c p q1 q2 q3) = ap (λ (z : Pair). headed (encTile (tileOf c p q1 q2 q3) .head) z (encQueue encForward q2) (encQueue encReply q3)) (rest-queue encRequest request-kind q1)
 
   pop3 : (x : Tile) → popped3 (encTile x) ≡ encTile (popNoc3 x)
   unfolding popped3 encTile popNoc3
-  pop3 (tileOf c p q1 q2 q3) = ap (λ (z : Pair). headed (encTile (tileOf c p q1 q2 q3) .head) (encQueue encRequest q1) (encQueue encForward q2) z) (rest-queue encReply q3)
+  pop3 (tileOf c p q1 q2 q3) = ap (λ (z : Pair). headed (encTile (tileOf c p q1 q2 q3) .head) (encQueue encRequest q1) (encQueue encForward q2) z) (rest-queue encReply reply-kind q3)
 
   front1 : (x : Tile) → encTile x .noc1 .a ≡ encFront encRequest (front (noc1 x))
   unfolding encTile noc1
@@ -306,7 +306,7 @@ module _ (l : List ℕ) (h : wellFormed l ≡ true) where
         let f = tile-full l place whole in
         let g = pop-full (blocks.pairAt l (place + 12)) (f .noc1-full) in
         laid-with (popNoc1 x) (popped1 (blocks.tileAt l place)) _ (ap popped1 tile-block ∙ pop1 x) (record { head-full = f .head-full; noc1-full = g; noc2-full = f .noc2-full; noc3-full = f .noc3-full })
-        (popped-at l (place + 12) (λ e. omega arith) ∙ sym (over-noc1 l place whole (pop (blocks.pairAt l (place + 12))) g))
+        (popped-at l (place + 12) (λ e. omega arith) ∙ put-noc1 l _ place whole (pop (blocks.pairAt l (place + 12))) g refl .words)
 
     laid-3 : Laid (popped l (place + 60)) H (set ts t (popNoc3 x)) r
     unfolding popped3 blocks.tileAt
@@ -314,7 +314,7 @@ module _ (l : List ℕ) (h : wellFormed l ≡ true) where
         let f = tile-full l place whole in
         let g = pop-full (blocks.pairAt l (place + 60)) (f .noc3-full) in
         laid-with (popNoc3 x) (popped3 (blocks.tileAt l place)) _ (ap popped3 tile-block ∙ pop3 x) (record { head-full = f .head-full; noc1-full = f .noc1-full; noc2-full = f .noc2-full; noc3-full = g })
-        (popped-at l (place + 60) (λ e. omega arith) ∙ sym (over-noc3 l place whole (pop (blocks.pairAt l (place + 60))) g))
+        (popped-at l (place + 60) (λ e. omega arith) ∙ put-noc3 l _ place whole (pop (blocks.pairAt l (place + 60))) g refl .words)
 
     -- the front of a queue, read in place
     row-1 : blocks.rowAt l (place + 12) ≡ encTile x .noc1 .a

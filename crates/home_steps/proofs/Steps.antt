@@ -326,7 +326,7 @@ accept-is n t s i (some invFwdAck) h j l k mem out back = inv-acked n t s i l k 
 answers-is : (n : ℕ) (h : Home) (l k : ℕ) (mem us : Words) (out : Queue ToMemory) (back : Queue FromMemory) (m : FromMemory)
     → numbers.answer (encHome n h l k us out back) mem (encFromMemory m)
     ≡ encStep n (encHome n h l k us out back) (movedHome (move h (fromMemory m ∷ [])) l k mem (rest out) back)
-unfolding numbers.answer stop setMemory queues.push queues.pop encHome encQueue encFromMemory encStep kindOf sentNumber targets forwardRow movedHome wentWith fileAll fileTo fileOne push rest
+unfolding numbers.answer stop setMemory queues.push queues.pop encHome encQueue encToMemory encFromMemory encStep kindOf sentNumber targets forwardRow movedHome wentWith fileAll fileTo fileOne push rest
 answers-is n h l k mem us empty empty m = refl
 answers-is n h l k mem us empty (one (loadMemAck ws)) m = refl
 answers-is n h l k mem us empty (one storeMemAck) m = refl
@@ -337,11 +337,16 @@ answers-is n h l k mem us (one b) (one (loadMemAck ws)) m = refl
 answers-is n h l k mem us (one b) (one storeMemAck) m = refl
 answers-is n h l k mem us (one b) (two a (loadMemAck ws)) m = refl
 answers-is n h l k mem us (one b) (two a storeMemAck) m = refl
-answers-is n h l k mem us (two b c) empty m = refl
-answers-is n h l k mem us (two b c) (one (loadMemAck ws)) m = refl
-answers-is n h l k mem us (two b c) (one storeMemAck) m = refl
-answers-is n h l k mem us (two b c) (two a (loadMemAck ws)) m = refl
-answers-is n h l k mem us (two b c) (two a storeMemAck) m = refl
+answers-is n h l k mem us (two b loadMem) empty m = refl
+answers-is n h l k mem us (two b (storeMem vs)) empty m = refl
+answers-is n h l k mem us (two b loadMem) (one (loadMemAck ws)) m = refl
+answers-is n h l k mem us (two b (storeMem vs)) (one (loadMemAck ws)) m = refl
+answers-is n h l k mem us (two b loadMem) (one storeMemAck) m = refl
+answers-is n h l k mem us (two b (storeMem vs)) (one storeMemAck) m = refl
+answers-is n h l k mem us (two b loadMem) (two a (loadMemAck ws)) m = refl
+answers-is n h l k mem us (two b (storeMem vs)) (two a (loadMemAck ws)) m = refl
+answers-is n h l k mem us (two b loadMem) (two a storeMemAck) m = refl
+answers-is n h l k mem us (two b (storeMem vs)) (two a storeMemAck) m = refl
 
 pub step-is : (n : ℕ) (h : Home) (l k : ℕ) (mem : Words) (out : Queue ToMemory) (back : Queue FromMemory)
     → numbers.memoryStep (encHome n h l k mem out back) ≡ encStep n (encHome n h l k mem out back) (steppedHome h l k mem out back)
@@ -355,10 +360,11 @@ step-is n h l k mem (two (storeMem ws) b) back = answers-is n h l k ws mem (two 
 -- ---- Memory ack
 acked-block : (n : ℕ) (h : Home) (l k : ℕ) (mem : Words) (out : Queue ToMemory) (back : Queue FromMemory)
     → numbers.acked (encHome n h l k mem out back) ≡ encHome n h l k mem out (rest back)
-unfolding numbers.acked queues.pop encHome encQueue rest
+unfolding numbers.acked queues.pop encHome encQueue encFromMemory rest
 acked-block n h l k mem out empty = refl
 acked-block n h l k mem out (one a) = refl
-acked-block n h l k mem out (two a b) = refl
+acked-block n h l k mem out (two a (loadMemAck ws)) = refl
+acked-block n h l k mem out (two a storeMemAck) = refl
 
 module _ (n l k : ℕ) (mem : Words) (out : Queue ToMemory) (back : Queue FromMemory) where
   abbrev left : Home → HomeBlock
@@ -394,8 +400,10 @@ unfolding numbers.memoryAck numbers.acked queues.pop applied lined numbered word
 ack-is n h l k mem out empty = refl
 ack-is n h l k mem out (one (loadMemAck ws)) = fills n l k mem out empty ws h
 ack-is n h l k mem out (one storeMemAck) = drops n l k mem out empty h
-ack-is n h l k mem out (two (loadMemAck ws) b) = fills n l k mem out (one b) ws h
-ack-is n h l k mem out (two storeMemAck b) = drops n l k mem out (one b) h
+ack-is n h l k mem out (two (loadMemAck ws) (loadMemAck vs)) = fills n l k mem out (one (loadMemAck vs)) ws h
+ack-is n h l k mem out (two (loadMemAck ws) storeMemAck) = fills n l k mem out (one storeMemAck) ws h
+ack-is n h l k mem out (two storeMemAck (loadMemAck vs)) = drops n l k mem out (one (loadMemAck vs)) h
+ack-is n h l k mem out (two storeMemAck storeMemAck) = drops n l k mem out (one storeMemAck) h
 
 -- ---- Home eviction
 module _ (n : ℕ) (s : n ≤ 64) (l k : ℕ) (mem : Words) (out : Queue ToMemory) (back : Queue FromMemory) where

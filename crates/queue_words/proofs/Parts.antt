@@ -11,10 +11,10 @@ use Rattle.lists.proofs.OverLaws.{length-over, over-over}
 use Rattle.words.specs.declared.Row.{Row}
 use Rattle.words.specs.declared.Pair.{Pair}
 use Rattle.words.specs.Blocks.{rowAt, pairAt, rowWords, pairWords, PairFull}
-use Rattle.words.proofs.Over.{row-words, write-pair}
+use Rattle.words.proofs.Over.{row-words, length-row, write-pair}
 use Rattle.words.proofs.Reading.{row-full}
-use Rattle.codec.specs.Encode.{noRow}
-use Rattle.queue_words.specs.Queues.{push, pop}
+use Rattle.codec.specs.Encode.{noRow, row}
+use Rattle.queue_words.specs.Queues.{push, note, pop}
 
 -- writing back what was read changes nothing
 pub over-read : (l : List ℕ) (i n : ℕ) → i + n ≤ length l → over l i (take n (drop i l)) ≡ l
@@ -65,25 +65,58 @@ set-part l i n w v b h =
     sym (over-read m i n (omega arith)) ∙ ap (over m i) e ∙ over-same l m i n (set (take n (drop i l)) w v)
     (simp (length-set, length-take, length-drop) (omega arith)) (take-set-le i l (i + w) v (omega arith)) (drop-set-lt (i + n) l (i + w) v (omega arith))
 
+-- a queue with one of its places written
+pub first-put : (l m : List ℕ) (i : ℕ) (r : Row) → i + 24 ≤ length l → length (r .words) ≡ 8 → m ≡ over l i (rowWords r) → m ≡ over l i (pairWords (record { a = r; b = rowAt l (i + 12) }))
+unfolding pairWords
+first-put l m i r h n e =
+    let k : length (rowWords r) ≡ 12 = length-row r n in
+    e ∙ kept-behind l i (i + 12) 12 (rowWords r) (omega arith) (omega arith) ∙ ap (λ (z : List ℕ). over l i (rowWords r ++ z)) (sym (row-words l (i + 12) (omega arith)))
+
+pub second-put : (l m : List ℕ) (i : ℕ) (r : Row) → i + 24 ≤ length l → m ≡ over l (i + 12) (rowWords r) → m ≡ over l i (pairWords (record { a = rowAt l i; b = r }))
+unfolding pairWords
+second-put l m i r h e =
+    e ∙ kept-before l i (i + 12) 12 (rowWords r) refl (omega arith) ∙ ap (λ (z : List ℕ). over l i (z ++ rowWords r)) (sym (row-words l i (omega arith)))
+
+-- a row's numbers written, its words as they were
+pub numbers-put : (l m : List ℕ) (i a b c d : ℕ) → i + 12 ≤ length l → m ≡ over l i (a ∷ b ∷ c ∷ d ∷ []) → m ≡ over l i (rowWords (row a b c d (rowAt l i .words)))
+unfolding rowWords rowAt
+numbers-put l m i a b c d h e = e ∙ kept-behind l i (i + 4) 8 (a ∷ b ∷ c ∷ d ∷ []) refl (omega arith)
+
 -- a queue with a message put, and with its front taken
-pub push-first : (l l1 l2 : List ℕ) (i : ℕ) (m z : Row) → i + 24 ≤ length l → getD l i 0 ≡ 0 → length (m .words) ≡ 8 → l1 ≡ over l i (rowWords m) → z ≡ noRow →
-    l2 ≡ over l1 (i + 12) (rowWords z) → (l2 ≡ over l i (pairWords (push (pairAt l i) m))) × PairFull (push (pairAt l i) m)
+pub push-first : (l m : List ℕ) (i : ℕ) (r : Row) → i + 24 ≤ length l → getD l i 0 ≡ 0 → length (r .words) ≡ 8 → m ≡ over l i (rowWords r) →
+    (m ≡ over l i (pairWords (push (pairAt l i) r))) × PairFull (push (pairAt l i) r)
 unfolding push pairAt rowAt
-push-first l l1 l2 i m z h e n e1 k e2 =
-    let f : PairFull (record { a = m; b = noRow }) = record { first = n; second = refl } in
-    rw (eq-eqb (getD l i 0) 0 e) (write-pair l l1 l2 i (record { a = m; b = noRow }) h f e1 (e2 ∙ ap (λ (r : Row). over l1 (i + 12) (rowWords r)) k), f)
+push-first l m i r h e n e1 = rw (eq-eqb (getD l i 0) 0 e) (first-put l m i r h n e1, record { first = n; second = row-full l (i + 12) (omega arith) })
 
-pub push-second : (l l1 : List ℕ) (i : ℕ) (m : Row) → i + 24 ≤ length l → (getD l i 0 ≡ 0 → ⊥) → length (m .words) ≡ 8 → l1 ≡ over l (i + 12) (rowWords m) →
-    (l1 ≡ over l i (pairWords (push (pairAt l i) m))) × PairFull (push (pairAt l i) m)
-unfolding push pairAt pairWords rowAt
-push-second l l1 i m h e n e1 =
-    rw (ne-eqb (getD l i 0) 0 e)
-    (e1 ∙ kept-before l i (i + 12) 12 (rowWords m) refl (omega arith) ∙ ap (λ (r : List ℕ). over l i (r ++ rowWords m)) (sym (row-words l i (omega arith))), record { first = row-full l i (omega arith); second = n })
+pub push-second : (l m : List ℕ) (i : ℕ) (r : Row) → i + 24 ≤ length l → (getD l i 0 ≡ 0 → ⊥) → length (r .words) ≡ 8 → m ≡ over l (i + 12) (rowWords r) →
+    (m ≡ over l i (pairWords (push (pairAt l i) r))) × PairFull (push (pairAt l i) r)
+unfolding push pairAt rowAt
+push-second l m i r h e n e1 = rw (ne-eqb (getD l i 0) 0 e) (second-put l m i r h e1, record { first = row-full l i (omega arith); second = n })
 
-pub pop-front : (l l1 l2 : List ℕ) (i : ℕ) (b z : Row) → i + 24 ≤ length l → b ≡ rowAt l (i + 12) → l1 ≡ over l i (rowWords b) → z ≡ noRow →
+pub note-first : (l m : List ℕ) (i a b c d : ℕ) → i + 24 ≤ length l → getD l i 0 ≡ 0 → m ≡ over l i (a ∷ b ∷ c ∷ d ∷ []) →
+    (m ≡ over l i (pairWords (note (pairAt l i) a b c d))) × PairFull (note (pairAt l i) a b c d)
+unfolding note pairAt rowAt
+note-first l m i a b c d h e e1 =
+    let n = row-full l i (omega arith) in
+    rw (eq-eqb (getD l i 0) 0 e) (first-put l m i (row a b c d (rowAt l i .words)) h n (numbers-put l m i a b c d (omega arith) e1), record { first = n; second = row-full l (i + 12) (omega arith) })
+
+pub note-second : (l m : List ℕ) (i a b c d : ℕ) → i + 24 ≤ length l → (getD l i 0 ≡ 0 → ⊥) → m ≡ over l (i + 12) (a ∷ b ∷ c ∷ d ∷ []) →
+    (m ≡ over l i (pairWords (note (pairAt l i) a b c d))) × PairFull (note (pairAt l i) a b c d)
+unfolding note pairAt rowAt
+note-second l m i a b c d h e e1 =
+    let n = row-full l (i + 12) (omega arith) in
+    rw (ne-eqb (getD l i 0) 0 e) (second-put l m i (row a b c d (rowAt l (i + 12) .words)) h (numbers-put l m (i + 12) a b c d (omega arith) e1), record { first = row-full l i (omega arith); second = n })
+
+pub pop-last : (l m : List ℕ) (i : ℕ) (z : Row) → i + 24 ≤ length l → getD l (i + 12) 0 ≡ 0 → z ≡ noRow → m ≡ over l i (rowWords z) →
+    (m ≡ over l i (pairWords (pop (pairAt l i)))) × PairFull (pop (pairAt l i))
+unfolding pop pairAt rowAt
+pop-last l m i z h a k e =
+    rw (eq-eqb (getD l (i + 12) 0) 0 a) (first-put l m i noRow h refl (e ∙ ap (λ (r : Row). over l i (rowWords r)) k), record { first = refl; second = row-full l (i + 12) (omega arith) })
+
+pub pop-front : (l l1 l2 : List ℕ) (i : ℕ) (b z : Row) → i + 24 ≤ length l → (getD l (i + 12) 0 ≡ 0 → ⊥) → b ≡ rowAt l (i + 12) → l1 ≡ over l i (rowWords b) → z ≡ noRow →
     l2 ≡ over l1 (i + 12) (rowWords z) → (l2 ≡ over l i (pairWords (pop (pairAt l i)))) × PairFull (pop (pairAt l i))
-unfolding pop pairAt
-pop-front l l1 l2 i b z h e e1 k e2 =
+unfolding pop pairAt rowAt
+pop-front l l1 l2 i b z h a e e1 k e2 =
     let p : Pair = record { a = rowAt l (i + 12); b = noRow } in
     let f : PairFull p = record { first = row-full l (i + 12) (omega arith); second = refl } in
-    (write-pair l l1 l2 i p h f (e1 ∙ ap (λ (r : Row). over l i (rowWords r)) e) (e2 ∙ ap (λ (r : Row). over l1 (i + 12) (rowWords r)) k), f)
+    rw (ne-eqb (getD l (i + 12) 0) 0 a) (write-pair l l1 l2 i p h f (e1 ∙ ap (λ (r : Row). over l i (rowWords r)) e) (e2 ∙ ap (λ (r : Row). over l1 (i + 12) (rowWords r)) k), f)

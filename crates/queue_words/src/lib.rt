@@ -5,7 +5,7 @@ ghost use lib.ListN.{length};
 ghost use Rattle.lists.specs.Over.{over};
 ghost use Rattle.words.specs.Blocks.{pairAt, pairWords, PairFull};
 ghost use Rattle.codec.specs.Encode.{zeros, row};
-ghost use Rattle.queue_words.specs.Queues.{room, push, pop};
+ghost use Rattle.queue_words.specs.Queues.{room, push, note, pop};
 use words::Row;
 
 pub fn row(a: u64, b: u64, c: u64, d: u64, words: [u64; 8]) -> Row
@@ -48,9 +48,22 @@ pub fn push_at(w: &mut [u64], at: usize, m: Row)
     let k = w[at];
     if k == 0 {
         words::write_row(w, at, m);
-        words::write_row(w, at + 12, bare(0, 0, 0, 0));
     } else {
         words::write_row(w, at + 12, m);
+    }
+}
+
+// A message without data: its numbers alone are written.
+pub fn note_at(w: &mut [u64], at: usize, a: u64, b: u64, c: u64, d: u64)
+    requires { ⌜ at + 24 ≤ length (now w) ⌝ }
+    ensures { λ _. ⌜ now (w .exit) ≡ over (now (w .entry)) at (pairWords (note (pairAt (now (w .entry)) at) a b c d)) ⌝ }
+    ensures full { λ _. ⌜ PairFull (note (pairAt (now (w .entry)) at) a b c d) ⌝ }
+{
+    let k = w[at];
+    if k == 0 {
+        words::write_four(w, at, a, b, c, d);
+    } else {
+        words::write_four(w, at + 12, a, b, c, d);
     }
 }
 
@@ -59,7 +72,12 @@ pub fn pop_at(w: &mut [u64], at: usize)
     ensures { λ _. ⌜ now (w .exit) ≡ over (now (w .entry)) at (pairWords (pop (pairAt (now (w .entry)) at))) ⌝ }
     ensures full { λ _. ⌜ PairFull (pop (pairAt (now (w .entry)) at)) ⌝ }
 {
-    let b = words::read_row(w, at + 12);
-    words::write_row(w, at, b);
-    words::write_row(w, at + 12, bare(0, 0, 0, 0));
+    let k = w[at + 12];
+    if k == 0 {
+        words::write_row(w, at, bare(0, 0, 0, 0));
+    } else {
+        let b = words::read_row(w, at + 12);
+        words::write_row(w, at, b);
+        words::write_row(w, at + 12, bare(0, 0, 0, 0));
+    }
 }

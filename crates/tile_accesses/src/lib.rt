@@ -1,78 +1,55 @@
-// Load and store, in place on the words where a tile's block stands: only what a step changes is written. What a tile sends goes onto its
-// own queues.
+// Load, store and evict at a tile, decided on its numbers.
 ghost use mathlib.Core.Path.{_≡_};
-ghost use Prim.Native.Nat.{_+_, _≤_, _<_};
-ghost use lib.ListN.{length};
-ghost use Rattle.tile_parts.specs.Steps.{asks, loadOn, storeOn};
-ghost use Rattle.tile_parts.specs.InPlace.{Puts, Steps, waiting, stored};
-use tile_parts::Told;
+ghost use Rattle.tile_parts.specs.Moves.{load, store, evict};
+use tile_parts::TileMove;
+use tile_parts::TileNumbers;
 
-fn waiting_at(w: &mut [u64], at: usize, k: u64, u: u64, word: u64, v: u64)
-    requires { ⌜ at + 84 ≤ length (now w) ⌝ }
-    ensures { λ _. ⌜ Puts (now (w .entry)) at (waiting k u word v) (now (w .exit)) ⌝ }
+pub fn load(x: TileNumbers, word: u64) -> TileMove
+    ensures { λ r. ⌜ r ≡ load x word ⌝ }
 {
-    let s = w[at];
-    tile_parts::numbers_at(w, at, s, u, word, v);
-    tile_parts::request_at(w, at, queue_words::bare(k, word, 0, 0));
-}
-
-fn asks_at(w: &mut [u64], at: usize, k: u64, u: u64, word: u64, v: u64) -> Told
-    requires { ⌜ at + 84 ≤ length (now w) ⌝ }
-    ensures { λ r. ⌜ Steps (now (w .entry)) at (asks k u word v) r (now (w .exit)) ⌝ }
-{
-    let free = queue_words::room_at(w, at + 12);
-    if free {
-        waiting_at(w, at, k, u, word, v);
-        tile_parts::done(3, 0, 1)
+    if word < 8 {
+        if x.waits == 0 {
+            if x.state == 0 {
+                tile_parts::asks(31, 1, word, 0)
+            } else {
+                tile_parts::reads(word)
+            }
+        } else {
+            tile_parts::stop(4)
+        }
     } else {
-        tile_parts::refuse(9)
+        tile_parts::stop(3)
     }
 }
 
-pub fn load_at(w: &mut [u64], at: usize, word: u64) -> Told
-    requires { ⌜ at + 84 ≤ length (now w) ⌝ }
-    ensures { λ r. ⌜ Steps (now (w .entry)) at (loadOn word) r (now (w .exit)) ⌝ }
+pub fn store(x: TileNumbers, word: u64, value: u64) -> TileMove
+    ensures { λ r. ⌜ r ≡ store x word value ⌝ }
 {
     if word < 8 {
-        if w[at + 1] == 0 {
-            if w[at] == 0 {
-                asks_at(w, at, 31, 1, word, 0)
+        if x.waits == 0 {
+            if x.state < 2 {
+                tile_parts::asks(2, 2, word, value)
             } else {
-                let i = word as usize;
-                tile_parts::done(1, w[at + 4 + i], 0)
+                tile_parts::stores(word, value)
             }
         } else {
-            tile_parts::refuse(4)
+            tile_parts::stop(4)
         }
     } else {
-        tile_parts::refuse(3)
+        tile_parts::stop(3)
     }
 }
 
-fn stored_at(w: &mut [u64], at: usize, word: u64, v: u64)
-    requires { ⌜ (at + 84 ≤ length (now w)) × (word < 8) ⌝ }
-    ensures { λ _. ⌜ Puts (now (w .entry)) at (stored word v) (now (w .exit)) ⌝ }
+pub fn evict(x: TileNumbers) -> TileMove
+    ensures { λ r. ⌜ r ≡ evict x ⌝ }
 {
-    tile_parts::numbers_at(w, at, 3, 0, 0, 0);
-    tile_parts::word_at(w, at, word, v);
-}
-
-pub fn store_at(w: &mut [u64], at: usize, word: u64, v: u64) -> Told
-    requires { ⌜ at + 84 ≤ length (now w) ⌝ }
-    ensures { λ r. ⌜ Steps (now (w .entry)) at (storeOn word v) r (now (w .exit)) ⌝ }
-{
-    if word < 8 {
-        if w[at + 1] == 0 {
-            if w[at] < 2 {
-                asks_at(w, at, 2, 2, word, v)
-            } else {
-                stored_at(w, at, word, v);
-                tile_parts::done(2, 0, 0)
-            }
-        } else {
-            tile_parts::refuse(4)
-        }
+    if x.state == 0 {
+        tile_parts::stop(5)
     } else {
-        tile_parts::refuse(3)
+        if x.state == 3 {
+            tile_parts::writes_back()
+        } else {
+            tile_parts::drops()
+        }
     }
 }

@@ -1,5 +1,5 @@
 -- The calls at one tile, on words: what the code does with the tile's block is document 01's step. Assumes nothing.
-use Prim.Native.Nat.{ℕ, suc, _+_, _*_, _%_, _^_, _≤_, _<_}
+use Prim.Native.Nat.{ℕ, _+_, _*_, _^_, _≤_, _<_}
 use mathlib.Core.Path.{_≡_, refl, ap, sym, _∙_, subst}
 use mathlib.Core.Bool.{Bool, cond, true, false, false≢true}
 use mathlib.Core.List.{List, [], _∷_}
@@ -12,7 +12,6 @@ use borrow.Author.Tests.{lt-ltb, le-ltb, eq-eqb}
 use Rattle.lists.specs.Over.{over}
 use Rattle.masks.specs.Mask.{add, add64}
 use Rattle.masks.proofs.MaskLaws.{has-add}
-use Rattle.words.specs.declared.Row.{Row}
 use Rattle.words.specs.declared.TileBlock.{TileBlock}
 use Rattle.words.specs.Blocks as blocks
 use Rattle.words.specs.Blocks.{need, tileWords, homeAt, TileFull}
@@ -20,15 +19,15 @@ use Rattle.protocol.specs.Parts.{Words, Queue, empty, one, two, shared, exclusi
 use Rattle.protocol.specs.Tile as rules
 use Rattle.protocol.specs.Bench as bench
 use Rattle.protocol.specs.Bench.{tileAt, settle, atTile, sent, send, sendTo, sendOne, posted, onTile1, onTile3, step, atWord}
-use Rattle.codec.specs.Encode.{waitingWord, encHead, encTile}
-use Rattle.codec.specs.Decode.{decWaiting, decTile, decoded, benchFrom, decTiles}
+use Rattle.codec.specs.Encode.{encTile}
+use Rattle.codec.specs.Decode.{decoded, benchFrom, decTiles}
 use Rattle.codec.specs.Sent.{sentOn, sentTo}
 use Rattle.tile_parts.specs.declared.TileStep.{TileStep}
 use Rattle.tile_parts.specs.declared.Told.{Told}
-use Rattle.tile_parts.specs.InPlace.{Stepped}
-use Rattle.tile_parts.proofs.InPlace.{put-same}
-use Rattle.tile_parts.specs.Steps.{loadOn, storeOn, evictOn, deliverOn, tileStepOn}
-use Rattle.tile_steps.proofs.Rules.{ownOne, ownTo, ownAll, encAfter, encStep, load-rule, store-rule, evict-rule, deliver-rule}
+use Rattle.tile_parts.specs.Steps.{tileStepOn}
+use Rattle.tile_numbers.specs.InPlace.{Stepped}
+use Rattle.tile_numbers.proofs.InPlace.{put-same}
+use Rattle.tile_steps.proofs.Rules.{ownOne, ownTo, ownAll, encAfter, encStep, ruleOf, rule-numbers}
 use Rattle.answers.specs.declared.Answer.{Answer}
 use Rattle.calls.specs.Calls.{wellFormed, stepOn, answerOf, wordsAfter}
 use Rattle.call_tags.specs.Tags.{tileCall}
@@ -93,21 +92,7 @@ word-local t w r h = go (ltb w 8)
     go true = h
     go false = refl
 
--- the four calls by number
-unfoldable ruleOf : ℕ → ℕ → ℕ → ℕ → Tile → Result Tile
-ruleOf c t w v x = cond (eqb c 16) (atWord w (rules.loadAt t w x)) (cond (eqb c 17) (atWord w (rules.storeAt t w v x)) (cond (eqb c 18) (rules.evictAt t x) (rules.deliverTo t x)))
-
-rule-numbers : (c t w v : ℕ) (x : Tile) → tileStepOn c w v (encTile x) ≡ encStep (encTile x) (ruleOf c t w v x)
-unfolding tileStepOn ruleOf
-rule-numbers c t w v x = go (eqb c 16) (eqb c 17) (eqb c 18)
-  where
-    go : (a b d : Bool) → cond a (loadOn w (encTile x)) (cond b (storeOn w v (encTile x)) (cond d (evictOn (encTile x)) (deliverOn (encTile x))))
-        ≡ encStep (encTile x) (cond a (atWord w (rules.loadAt t w x)) (cond b (atWord w (rules.storeAt t w v x)) (cond d (rules.evictAt t x) (rules.deliverTo t x))))
-    go true b d = load-rule t w x
-    go false true d = store-rule t w v x
-    go false false true = evict-rule t x
-    go false false false = deliver-rule t x
-
+-- the four calls by tag
 rule-local : (c t w v : ℕ) (x : Tile) → Local t (ruleOf c t w v x)
 unfolding ruleOf
 rule-local c t w v x = go (eqb c 16) (eqb c 17) (eqb c 18)
@@ -179,21 +164,6 @@ own-tiles t (onNoc2 u m ∷ ms) own = absurd own
 own-tiles t (toMemory m ∷ ms) own = absurd own
 own-tiles t (fromMemory m ∷ ms) own = absurd own
 
-waiting-below : (r : Row) → waitingWord (decWaiting r) < 8
-unfolding waitingWord decWaiting
-waiting-below r = go (eqb (r .n1) 0) (eqb (r .n1) 1)
-  where
-    go : (a b : Bool) → waitingWord (cond a nothing (cond b (forLoad (r .n2 % 8)) (forStore (r .n2 % 8) (r .n3)))) < 8
-    go true b = omega arith
-    go false true = omega arith
-    go false false = omega arith
-
-words-below : (l : List ℕ) (i n t : ℕ) → encTile (tileAt (decTiles l i n) t) .head .n2 < 8
-unfolding decTiles decTile encTile encHead waitingWord
-words-below l i ℕ.zero t = omega arith
-words-below l i (suc n) ℕ.zero = waiting-below (blocks.tileAt l i .head)
-words-below l i (suc n) (suc t) = words-below l (i + 84) n t
-
 module _ (l : List ℕ) (c t w v : ℕ) (h : wellFormed l ≡ true) where
   abbrev ts : List Tile
   ts = decTiles l 74 (getD l 0 0)
@@ -223,10 +193,6 @@ module _ (l : List ℕ) (c t w v : ℕ) (h : wellFormed l ≡ true) where
 
     block : blocks.tileAt l (74 + 84 * t) ≡ encTile x
     block = laid-tile l (homeAt l) ts (drop (need (getD l 0 0)) l) (laid-out l (found l h)) t inside
-
-    -- the word that a tile waits for is below 8
-    pub word-below : blocks.tileAt l (74 + 84 * t) .head .n2 < 8
-    word-below = rw block (words-below l 74 (getD l 0 0) t)
 
     step-numbers : s ≡ encStep (encTile x) (ruleOf c t w v x)
     step-numbers = is ∙ rw block (rule-numbers c t w v x)

@@ -15,7 +15,7 @@ pub fn at_tile(w: &mut [u64], c: u64, t: u64, word: u64, value: u64) -> Answer
         let n = w[0];
         if t < n {
             let at = 74 + 84 * (t as usize);
-            let s = tile_steps::step_at(w, at, c, word, value);
+            let s = tile_turns::step_at(w, at, c, word, value);
             if s.refusal == 0 {
                 answers::accepted(s.kind, s.value, s.sent, t)
             } else {

@@ -1,16 +1,20 @@
--- Load, store, evict and delivery to a tile on a tile's block, in numbers, as the code tests them. That they are document 01's
--- rules is proved (proofs/Rules.antt); no public contract rests on this file alone.
+-- A tile's steps on its block: its moves (specs/Moves.antt) applied. That they are document 01's rules is proved (crate tile_steps,
+-- proofs/Rules.antt); no public contract rests on this file alone.
 use Prim.Native.Nat.{ℕ}
 use mathlib.Core.Bool.{cond}
 use mathlib.Core.List.{List}
-use lib.Dec.{eqb, ltb}
+use lib.Dec.{eqb}
 use lib.ListN.{getD, set}
 use Rattle.words.specs.declared.Row.{Row}
 use Rattle.words.specs.declared.Pair.{Pair}
 use Rattle.words.specs.declared.TileBlock.{TileBlock}
 use Rattle.codec.specs.Encode.{zeros, row}
-use Rattle.queue_words.specs.Queues.{room, push, pop}
+use Rattle.queue_words.specs.Queues.{push, note, pop}
+use Rattle.tile_parts.specs.declared.TileNumbers.{TileNumbers}
+use Rattle.tile_parts.specs.declared.TileMove.{TileMove}
 use Rattle.tile_parts.specs.declared.TileStep.{TileStep}
+use Rattle.tile_parts.specs.Moves as moves
+use Rattle.tile_parts.specs.Moves.{numbersOf}
 
 abbrev pub refuse : ℕ → TileBlock → TileStep
 refuse n x = record { refusal = n; kind = 0; value = 0; sent = 0; tile = x }
@@ -23,79 +27,89 @@ done k v s x = record { refusal = 0; kind = k; value = v; sent = s; tile = x }
 abbrev pub headed : Row → Pair → Pair → Pair → TileBlock
 headed h p q r = record { head = h; noc1 = p; noc2 = q; noc3 = r }
 
--- a request of type k for word w, waiting as number u says, with the value v to store
-unfoldable pub asks : ℕ → ℕ → ℕ → ℕ → TileBlock → TileStep
-asks k u w v x =
-    cond (room (x .noc1)) (done 3 0 1 (headed (row (x .head .n0) u w v (x .head .words)) (push (x .noc1) (row k w 0 0 zeros)) (x .noc2) (x .noc3))) (refuse 9 x)
+-- the numbers of a block by which a tile decides
+unfoldable pub numbersIn : TileBlock → TileNumbers
+numbersIn x = numbersOf (x .head .n0) (x .head .n1) (x .head .n2) (x .head .n3) (x .noc1 .b .n0) (x .noc2 .a .n0) (x .noc2 .a .n2) (x .noc3 .b .n0)
 
-unfoldable pub loadOn : ℕ → TileBlock → TileStep
-loadOn w x =
-    cond (ltb w 8)
-    (cond (eqb (x .head .n1) 0) (cond (eqb (x .head .n0) 0) (asks 31 1 w 0 x) (done 1 (getD (x .head .words) w 0) 0 x)) (refuse 4 x))
-    (refuse 3 x)
+-- a block with other numbers of its head; with another state; with other words; with a message more on NoC1, one less on NoC2, one more on NoC3
+abbrev pub numbered : ℕ → ℕ → ℕ → ℕ → TileBlock → TileBlock
+numbered a b c d x = headed (row a b c d (x .head .words)) (x .noc1) (x .noc2) (x .noc3)
 
-unfoldable pub storeOn : ℕ → ℕ → TileBlock → TileStep
-storeOn w v x =
-    cond (ltb w 8)
-    (cond (eqb (x .head .n1) 0)
-    (cond (ltb (x .head .n0) 2) (asks 2 2 w v x) (done 2 0 0 (headed (row 3 0 0 0 (set (x .head .words) w v)) (x .noc1) (x .noc2) (x .noc3))))
-    (refuse 4 x))
-    (refuse 3 x)
+abbrev pub stated : ℕ → TileBlock → TileBlock
+stated s x = numbered s (x .head .n1) (x .head .n2) (x .head .n3) x
 
--- the head of a tile that has dropped its line
-unfoldable pub dropped : Row → Row
-dropped h = row 0 (h .n1) (h .n2) (h .n3) zeros
+abbrev pub lined : List ℕ → TileBlock → TileBlock
+lined ws x = headed (row (x .head .n0) (x .head .n1) (x .head .n2) (x .head .n3) ws) (x .noc1) (x .noc2) (x .noc3)
 
-unfoldable pub writesBack : TileBlock → TileStep
-writesBack x =
-    cond (room (x .noc3))
-    (cond (room (x .noc1)) (done 3 0 6 (headed (dropped (x .head)) (push (x .noc1) (row 13 0 0 0 zeros)) (x .noc2) (push (x .noc3) (row 12 0 0 0 (x .head .words))))) (refuse 9 x))
-    (refuse 9 x)
+abbrev pub requested : Pair → TileBlock → TileBlock
+requested q x = headed (x .head) q (x .noc2) (x .noc3)
 
-unfoldable pub evictOn : TileBlock → TileStep
-evictOn x =
-    cond (eqb (x .head .n0) 0) (refuse 5 x) (cond (eqb (x .head .n0) 3) (writesBack x) (done 0 0 0 (headed (dropped (x .head)) (x .noc1) (x .noc2) (x .noc3))))
+abbrev pub received : TileBlock → TileBlock
+received x = headed (x .head) (x .noc1) (pop (x .noc2)) (x .noc3)
 
--- the ack m is sent, the state becomes s and the words ws; the waiting access stays
-unfoldable pub answers : ℕ → List ℕ → Row → TileBlock → TileStep
-answers s ws m x =
-    cond (room (x .noc3)) (done 3 0 3 (headed (row s (x .head .n1) (x .head .n2) (x .head .n3) ws) (x .noc1) (pop (x .noc2)) (push (x .noc3) m))) (refuse 9 x)
+abbrev pub replied : Pair → TileBlock → TileBlock
+replied q x = headed (x .head) (x .noc1) (x .noc2) q
 
--- the line comes in: state s, words ws, nothing waits any more
-unfoldable pub fills : ℕ → ℕ → ℕ → List ℕ → TileBlock → TileStep
-fills k v s ws x = done k v 0 (headed (row s 0 0 0 ws) (x .noc1) (pop (x .noc2)) (x .noc3))
+-- the acts: a request, and the tile waits; a word stored; the line dropped, and written back; a forward answered; the line comes in for a
+-- load, and for a store
+abbrev pub asked : ℕ → ℕ → ℕ → ℕ → TileBlock → TileBlock
+asked k u w v x = requested (note (x .noc1) k w 0 0) (numbered (x .head .n0) u w v x)
 
-unfoldable pub onLoadFwd : ℕ → TileBlock → TileStep
-onLoadFwd s x =
-    cond (eqb s 0) (answers 0 zeros (row 21 0 0 0 zeros) x)
-    (cond (eqb s 1) (refuse 8 x) (cond (eqb s 2) (answers 1 (x .head .words) (row 21 0 1 0 zeros) x) (answers 1 (x .head .words) (row 21 0 1 1 (x .head .words)) x)))
+abbrev pub worded : ℕ → ℕ → TileBlock → TileBlock
+worded w v x = lined (set (x .head .words) w v) x
 
-unfoldable pub onStoreFwd : ℕ → TileBlock → TileStep
-onStoreFwd s x =
-    cond (eqb s 1) (refuse 8 x) (cond (eqb s 3) (answers 0 zeros (row 22 0 0 1 (x .head .words)) x) (answers 0 zeros (row 22 0 0 0 zeros) x))
+abbrev pub stored : ℕ → ℕ → TileBlock → TileBlock
+stored w v x = worded w v (stated 3 x)
 
-unfoldable pub onInvFwd : ℕ → TileBlock → TileStep
-onInvFwd s x = cond (ltb s 2) (answers 0 zeros (row 23 0 0 0 zeros) x) (refuse 8 x)
+abbrev pub emptied : TileBlock → TileBlock
+emptied x = lined zeros (stated 0 x)
 
--- DATA_ACK in state d with words ws
-unfoldable pub onStoreFill : List ℕ → TileBlock → TileStep
-onStoreFill ws x = cond (eqb (x .head .n1) 2) (cond (ltb (x .head .n0) 2) (fills 2 0 3 (set ws (x .head .n2) (x .head .n3)) x) (refuse 8 x)) (refuse 8 x)
+abbrev pub writtenBack : TileBlock → TileBlock
+writtenBack x = emptied (requested (note (x .noc1) 13 0 0 0) (replied (push (x .noc3) (row 12 0 0 0 (x .head .words))) x))
 
-unfoldable pub onLoadFill : ℕ → List ℕ → TileBlock → TileStep
-onLoadFill d ws x = cond (eqb (x .head .n1) 1) (cond (eqb (x .head .n0) 0) (fills 1 (getD ws (x .head .n2) 0) d ws x) (refuse 8 x)) (refuse 8 x)
+unfoldable pub replyAfter : ℕ → ℕ → ℕ → TileBlock → TileBlock
+replyAfter k r f x = cond (eqb f 0) (replied (note (x .noc3) k 0 r 0) x) (replied (push (x .noc3) (row k 0 r f (x .head .words))) x)
 
-unfoldable pub onDataAck : ℕ → List ℕ → TileBlock → TileStep
-onDataAck d ws x = cond (eqb d 3) (onStoreFill ws x) (onLoadFill d ws x)
+unfoldable pub lineAfter : ℕ → TileBlock → TileBlock
+lineAfter s x = cond (eqb s 0) (emptied x) (stated s x)
 
-unfoldable pub onForward : ℕ → ℕ → TileBlock → TileStep
-onForward k s x = cond (eqb k 16) (onLoadFwd s x) (cond (eqb k 17) (onStoreFwd s x) (onInvFwd s x))
+abbrev pub answered : ℕ → ℕ → ℕ → ℕ → TileBlock → TileBlock
+answered s k r f x = received (lineAfter s (replyAfter k r f x))
 
-unfoldable pub deliverOn : TileBlock → TileStep
-deliverOn x =
-    cond (eqb (x .noc2 .a .n0) 0) (refuse 7 x)
-    (cond (ltb (x .noc2 .a .n0) 16) (onDataAck (x .noc2 .a .n2) (x .noc2 .a .words) x)
-    (cond (ltb (x .noc2 .a .n0) 19) (onForward (x .noc2 .a .n0) (x .head .n0) x) (onDataAck (x .noc2 .a .n2) (x .noc2 .a .words) x)))
+abbrev pub loadFilled : ℕ → TileBlock → TileBlock
+loadFilled s x = received (lined (x .noc2 .a .words) (numbered s 0 0 0 x))
+
+abbrev pub storeFilled : ℕ → ℕ → TileBlock → TileBlock
+storeFilled w v x = received (worded w v (lined (x .noc2 .a .words) (numbered 3 0 0 0 x)))
+
+-- a move, and the word that it loads
+unfoldable pub moved : TileMove → TileBlock → TileBlock
+moved m x =
+    cond (eqb (m .act) 0) x
+    (cond (eqb (m .act) 1) (asked (m .message) (m .waits) (m .word) (m .value) x)
+    (cond (eqb (m .act) 2) (stored (m .word) (m .value) x)
+    (cond (eqb (m .act) 3) (emptied x)
+    (cond (eqb (m .act) 4) (writtenBack x)
+    (cond (eqb (m .act) 5) (answered (m .state) (m .message) (m .right) (m .flag) x)
+    (cond (eqb (m .act) 6) (loadFilled (m .state) x) (storeFilled (m .word) (m .value) x)))))))
+
+unfoldable pub valueOf : TileMove → TileBlock → ℕ
+valueOf m x = cond (eqb (moves.kindOf (m .act)) 1) (getD (x .head .words) (m .word) 0) 0
+
+-- a move made where its refusal number r is 0
+unfoldable pub made : ℕ → TileMove → TileBlock → TileBlock
+made r m x = cond (eqb r 0) (moved m x) x
+
+unfoldable pub stepOf : ℕ → TileMove → TileBlock → TileStep
+stepOf r m x = cond (eqb r 0) (done (moves.kindOf (m .act)) (valueOf m x) (moves.sentOf (m .act)) x) (refuse r x)
+
+unfoldable pub settled : ℕ → TileMove → TileBlock → TileStep
+settled r m x = stepOf r m (made r m x)
+
+-- a move applied to a block
+unfoldable pub applied : TileBlock → TileMove → TileStep
+applied x m = settled (moves.refusal (numbersIn x) m) m x
 
 -- the four by tag: 16 load, 17 store, 18 evict, else delivery to the tile
 unfoldable pub tileStepOn : ℕ → ℕ → ℕ → TileBlock → TileStep
-tileStepOn c w v x = cond (eqb c 16) (loadOn w x) (cond (eqb c 17) (storeOn w v x) (cond (eqb c 18) (evictOn x) (deliverOn x)))
+tileStepOn c w v x = applied x (moves.step (numbersIn x) c w v)

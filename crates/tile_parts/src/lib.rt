@@ -1,11 +1,40 @@
-// The parts of a tile's steps, in place on the words where its block stands: its head's numbers and words, and its queues. And what a
-// step answers.
+// The parts of a tile's moves. A move is decided on numbers alone, by value; crate tile_words makes it, on the words where the tile's block
+// stands.
 ghost use mathlib.Core.Path.{_≡_};
-ghost use Prim.Native.Nat.{_+_, _≤_, _<_};
-ghost use lib.ListN.{length};
-ghost use Rattle.tile_parts.specs.InPlace.{Puts, numbered, stated, lined, worded, requested, received, replied};
-use words::Row;
+ghost use mathlib.Core.Bool.{cond};
+ghost use lib.Dec.{eqb};
+ghost use Rattle.tile_parts.specs.Moves.{moveOf, stop, reads, asks, stores, drops, writesBack, answers, loads, fills, kindOf, sentOf, nine, roomFor, refusal};
 use words::TileBlock;
+
+// The numbers by which a tile decides: its state; what it waits for (0 nothing, 1 a load, 2 a store), the word and the value to store; the type
+// of the second message on NoC1 (0: there is room); type and state of the front message on NoC2 (type 0: none); the type of the second message
+// on NoC3.
+pub struct TileNumbers {
+    pub state: u64,
+    pub waits: u64,
+    pub word: u64,
+    pub value: u64,
+    pub noc1: u64,
+    pub front: u64,
+    pub right: u64,
+    pub noc3: u64,
+}
+
+// What a step of a tile comes to: its refusal number but for 9 (0: accepted), and what it does, with the numbers that this takes. Acts: 0 a word is
+// loaded where it stands; 1 a request of the type `message`, and the tile waits; 2 a value is stored where the word stands; 3 the line is
+// dropped; 4 it is written back, with its guard; 5 a forward is answered by an ack of the type `message`, with data where the flag is 1, and the
+// state changes; 6 the line comes in for a load, 7 for a store.
+pub struct TileMove {
+    pub refusal: u64,
+    pub act: u64,
+    pub state: u64,
+    pub waits: u64,
+    pub word: u64,
+    pub value: u64,
+    pub message: u64,
+    pub right: u64,
+    pub flag: u64,
+}
 
 // A step as the definitions tell it: the answer, and the block after it.
 pub struct TileStep {
@@ -24,74 +53,147 @@ pub struct Told {
     pub sent: u64,
 }
 
-pub fn refuse(n: u64) -> Told
-    ensures { λ r. ⌜ r ≡ record { refusal = n; kind = 0; value = 0; sent = 0 } ⌝ }
+fn moved(
+    refusal: u64,
+    act: u64,
+    state: u64,
+    waits: u64,
+    word: u64,
+    value: u64,
+    message: u64,
+    right: u64,
+    flag: u64,
+) -> TileMove
+    ensures { λ r. ⌜ r ≡ moveOf refusal act state waits word value message right flag ⌝ }
 {
-    Told {
-        refusal: n,
-        kind: 0,
-        value: 0,
-        sent: 0,
+    TileMove {
+        refusal,
+        act,
+        state,
+        waits,
+        word,
+        value,
+        message,
+        right,
+        flag,
     }
 }
 
-pub fn done(k: u64, v: u64, s: u64) -> Told
-    ensures { λ r. ⌜ r ≡ record { refusal = 0; kind = k; value = v; sent = s } ⌝ }
+pub fn stop(n: u64) -> TileMove
+    ensures { λ r. ⌜ r ≡ stop n ⌝ }
 {
-    Told {
-        refusal: 0,
-        kind: k,
-        value: v,
-        sent: s,
+    moved(n, 0, 0, 0, 0, 0, 0, 0, 0)
+}
+
+pub fn reads(word: u64) -> TileMove
+    ensures { λ r. ⌜ r ≡ reads word ⌝ }
+{
+    moved(0, 0, 0, 0, word, 0, 0, 0, 0)
+}
+
+// The tile then waits as number u says.
+pub fn asks(k: u64, u: u64, word: u64, value: u64) -> TileMove
+    ensures { λ r. ⌜ r ≡ asks k u word value ⌝ }
+{
+    moved(0, 1, 0, u, word, value, k, 0, 0)
+}
+
+pub fn stores(word: u64, value: u64) -> TileMove
+    ensures { λ r. ⌜ r ≡ stores word value ⌝ }
+{
+    moved(0, 2, 0, 0, word, value, 0, 0, 0)
+}
+
+pub fn drops() -> TileMove
+    ensures { λ r. ⌜ r ≡ drops ⌝ }
+{
+    moved(0, 3, 0, 0, 0, 0, 0, 0, 0)
+}
+
+pub fn writes_back() -> TileMove
+    ensures { λ r. ⌜ r ≡ writesBack ⌝ }
+{
+    moved(0, 4, 0, 0, 0, 0, 0, 0, 0)
+}
+
+// The state becomes s.
+pub fn answers(s: u64, k: u64, right: u64, flag: u64) -> TileMove
+    ensures { λ r. ⌜ r ≡ answers s k right flag ⌝ }
+{
+    moved(0, 5, s, 0, 0, 0, k, right, flag)
+}
+
+pub fn loads(s: u64, word: u64) -> TileMove
+    ensures { λ r. ⌜ r ≡ loads s word ⌝ }
+{
+    moved(0, 6, s, 0, word, 0, 0, 0, 0)
+}
+
+pub fn fills(word: u64, value: u64) -> TileMove
+    ensures { λ r. ⌜ r ≡ fills word value ⌝ }
+{
+    moved(0, 7, 0, 0, word, value, 0, 0, 0)
+}
+
+pub fn kind_of(a: u64) -> u64
+    ensures { λ r. ⌜ r ≡ kindOf a ⌝ }
+{
+    match a {
+        0 => 1,
+        1 => 3,
+        2 => 2,
+        3 => 0,
+        4 => 3,
+        5 => 3,
+        6 => 1,
+        _ => 2,
     }
 }
 
-pub fn numbers_at(w: &mut [u64], at: usize, a: u64, b: u64, c: u64, d: u64)
-    requires { ⌜ at + 84 ≤ length (now w) ⌝ }
-    ensures { λ _. ⌜ Puts (now (w .entry)) at (numbered a b c d) (now (w .exit)) ⌝ }
+// On which queues an act sends.
+pub fn sent_of(a: u64) -> u64
+    ensures { λ r. ⌜ r ≡ sentOf a ⌝ }
 {
-    words::write_four(w, at, a, b, c, d);
+    match a {
+        1 => 1,
+        4 => 6,
+        5 => 3,
+        _ => 0,
+    }
 }
 
-pub fn state_at(w: &mut [u64], at: usize, s: u64)
-    requires { ⌜ at + 84 ≤ length (now w) ⌝ }
-    ensures { λ _. ⌜ Puts (now (w .entry)) at (stated s) (now (w .exit)) ⌝ }
+// 9 where there is no room behind a message of type `second`.
+fn nine(second: u64) -> u64
+    ensures { λ r. ⌜ r ≡ nine second ⌝ }
 {
-    w[at] = s;
+    if second == 0 { 0 } else { 9 }
 }
 
-pub fn line_at(w: &mut [u64], at: usize, d: [u64; 8])
-    requires { ⌜ at + 84 ≤ length (now w) ⌝ }
-    ensures { λ _. ⌜ Puts (now (w .entry)) at (lined d) (now (w .exit)) ⌝ }
+fn both_rooms(noc3: u64, noc1: u64) -> u64
+    ensures { λ r. ⌜ r ≡ cond (eqb noc3 0) (nine noc1) 9 ⌝ }
 {
-    words::write_eight(w, at + 4, d);
+    if noc3 == 0 { nine(noc1) } else { 9 }
 }
 
-pub fn word_at(w: &mut [u64], at: usize, word: u64, v: u64)
-    requires { ⌜ (at + 84 ≤ length (now w)) × (word < 8) ⌝ }
-    ensures { λ _. ⌜ Puts (now (w .entry)) at (worded word v) (now (w .exit)) ⌝ }
+// 9 where an act has no room for what it sends.
+fn room_for(x: TileNumbers, a: u64) -> u64
+    ensures { λ r. ⌜ r ≡ roomFor x a ⌝ }
 {
-    let i = word as usize;
-    w[at + 4 + i] = v;
+    match a {
+        1 => nine(x.noc1),
+        4 => both_rooms(x.noc3, x.noc1),
+        5 => nine(x.noc3),
+        _ => 0,
+    }
 }
 
-pub fn request_at(w: &mut [u64], at: usize, m: Row)
-    requires { ⌜ at + 84 ≤ length (now w) ⌝ }
-    ensures { λ _. ⌜ Puts (now (w .entry)) at (requested m) (now (w .exit)) ⌝ }
+// A move's refusal number, 9 last.
+pub fn refusal(x: TileNumbers, m: TileMove) -> u64
+    ensures { λ r. ⌜ r ≡ refusal x m ⌝ }
 {
-    queue_words::push_at(w, at + 12, m);
-}
-
-pub fn receive_at(w: &mut [u64], at: usize)
-    requires { ⌜ at + 84 ≤ length (now w) ⌝ }
-    ensures { λ _. ⌜ Puts (now (w .entry)) at received (now (w .exit)) ⌝ }
-{
-    queue_words::pop_at(w, at + 36);
-}
-
-pub fn reply_at(w: &mut [u64], at: usize, m: Row)
-    requires { ⌜ at + 84 ≤ length (now w) ⌝ }
-    ensures { λ _. ⌜ Puts (now (w .entry)) at (replied m) (now (w .exit)) ⌝ }
-{
-    queue_words::push_at(w, at + 60, m);
+    if m.refusal == 0 {
+        room_for(x, m.act)
+    } else {
+        m.refusal
+    }
 }

@@ -1,4 +1,5 @@
--- The steps in numbers are document 01's rules, read through the codec: one list of clauses for each call. Assumes nothing.
+-- The moves of a tile, applied to its block, are document 01's rules, read through the codec: one list of clauses for each call.
+-- Assumes nothing.
 use Prim.Native.Nat.{ℕ}
 use mathlib.Core.Path.{_≡_, refl, sym, _∙_}
 use mathlib.Core.Bool.{Bool, cond, true, false}
@@ -12,11 +13,13 @@ use Rattle.words.specs.declared.TileBlock.{TileBlock}
 use Rattle.protocol.specs.Parts.{Words, Queue, empty, one, two, Right, shared, exclusive, modified, Cache, invalid, valid, Waiting, nothing, forLoad, forStore, Request, loadReq, storeReq, wbGuardReq, Forward, loadFwd, storeFwd, invFwd, dataAck, Reply, wbReq, loadFwdAckS, loadFwdAckI, storeFwdAck, invFwdAck, Message, onNoc1, onNoc2, onNoc3, toMemory, fromMemory, Tile, tileOf, Result, refused, accepted}
 use Rattle.protocol.specs.Tile as rules
 use Rattle.protocol.specs.Bench as bench
-use Rattle.codec.specs.Encode.{row, rightNumber, encRequest, encForward, encReply, encQueue, stateNumber, cacheWords, waitingNumber, waitingWord, waitingValue, encHead, encTile}
+use Rattle.codec.specs.Encode.{zeros, noRow, row, rightNumber, encRequest, encForward, encReply, encQueue, stateNumber, cacheWords, waitingNumber, waitingWord, waitingValue, encHead, encTile}
 use Rattle.codec.specs.Sent.{sentOn}
-use Rattle.queue_words.specs.Queues.{room, push, pop}
+use Rattle.queue_words.specs.Queues.{room, push, note, pop}
 use Rattle.tile_parts.specs.declared.TileStep.{TileStep}
-use Rattle.tile_parts.specs.Steps.{refuse, done, headed, asks, loadOn, storeOn, dropped, writesBack, evictOn, answers, fills, onLoadFwd, onStoreFwd, onInvFwd, onForward, onStoreFill, onLoadFill, onDataAck, deliverOn}
+use Rattle.tile_parts.specs.declared.TileMove.{TileMove}
+use Rattle.tile_parts.specs.Moves as moves
+use Rattle.tile_parts.specs.Steps.{refuse, done, headed, numbersIn, replyAfter, lineAfter, moved, valueOf, made, stepOf, settled, applied, tileStepOn}
 
 -- what a tile sends goes onto its own queues
 unfoldable pub ownOne : Message → Tile → Option Tile
@@ -71,7 +74,7 @@ unfoldable pub orElse : {A B : Type 0} → B → (A → B) → Option A → B
 orElse z f none = z
 orElse z f (some a) = f a
 
--- a queue that is pushed to where it has room
+-- a queue that a message is put on where it has room: whole, and by its numbers where it has no data
 pub on-room : {A B : Type 0} (f : A → Row) → ((m : A) → eqb (f m .n0) 0 ≡ false) → (q : Queue A) (m : A) (K : Pair → B) (z : B) →
     cond (room (encQueue f q)) (K (push (encQueue f q) (f m))) z ≡ orElse z (λ (p : Queue A). K (encQueue f p)) (bench.push m q)
 unfolding room push encQueue bench.push orElse
@@ -79,11 +82,18 @@ on-room f h empty m K z = refl
 on-room f h (one a) m K z = rw (h a)
 on-room f h (two a b) m K z = rw (h b)
 
-pub rest-queue : {A : Type 0} (f : A → Row) (q : Queue A) → pop (encQueue f q) ≡ encQueue f (bench.rest q)
+pub on-note : {A B : Type 0} (f : A → Row) → ((m : A) → eqb (f m .n0) 0 ≡ false) → (q : Queue A) (m : A) (a b c d : ℕ) → f m ≡ row a b c d zeros → (K : Pair → B) (z : B) →
+    cond (room (encQueue f q)) (K (note (encQueue f q) a b c d)) z ≡ orElse z (λ (p : Queue A). K (encQueue f p)) (bench.push m q)
+unfolding room note encQueue bench.push orElse
+on-note f h empty m a b c d e K z = rw e
+on-note f h (one y) m a b c d e K z = rw (h y, e)
+on-note f h (two x y) m a b c d e K z = rw (h y)
+
+pub rest-queue : {A : Type 0} (f : A → Row) → ((m : A) → eqb (f m .n0) 0 ≡ false) → (q : Queue A) → pop (encQueue f q) ≡ encQueue f (bench.rest q)
 unfolding pop encQueue bench.rest
-rest-queue f empty = refl
-rest-queue f (one a) = refl
-rest-queue f (two a b) = refl
+rest-queue f h empty = refl
+rest-queue f h (one a) = refl
+rest-queue f h (two a b) = rw (h b)
 
 -- what is done with a queue where it has room is the tile with that queue
 after1 : (c : Cache) (p : Waiting) (q2 : Queue Forward) (q3 : Queue Reply) (s : ℕ) (b : TileBlock) (o : Option (Queue Request)) →
@@ -100,31 +110,56 @@ unfolding orElse encAfter encTile
 after3 c p q1 q2 b none = refl
 after3 c p q1 q2 b (some q) = refl
 
+-- a move by the room that one queue, or two, must have
+abbrev doneBy : TileMove → TileBlock → TileStep
+doneBy m x = done (moves.kindOf (m .act)) (valueOf m (moved m x)) (moves.sentOf (m .act)) (moved m x)
+
+one-room : (r : Bool) (m : TileMove) (x : TileBlock) → settled (cond r 0 9) m x ≡ cond r (doneBy m x) (refuse 9 x)
+unfolding settled stepOf made
+one-room true m x = refl
+one-room false m x = refl
+
+both-room : (r s : Bool) (m : TileMove) (x : TileBlock) → settled (cond r (cond s 0 9) 9) m x ≡ cond r (cond s (doneBy m x) (refuse 9 x)) (refuse 9 x)
+unfolding settled stepOf made
+both-room true true m x = refl
+both-room true false m x = refl
+both-room false s m x = refl
+
 -- a request, of either type
 asks-load : (w : ℕ) (q1 : Queue Request) (q2 : Queue Forward) (q3 : Queue Reply) →
-    asks 31 1 w 0 (encTile (tileOf invalid nothing q1 q2 q3)) ≡ encAfter 3 0 1 (encTile (tileOf invalid nothing q1 q2 q3)) (bench.onTile1 (loadReq w) (tileOf invalid (forLoad w) q1 q2 q3))
-unfolding asks encTile encHead encRequest stateNumber cacheWords waitingNumber waitingWord waitingValue bench.onTile1
+    applied (encTile (tileOf invalid nothing q1 q2 q3)) (moves.asks 31 1 w 0)
+    ≡ encAfter 3 0 1 (encTile (tileOf invalid nothing q1 q2 q3)) (bench.onTile1 (loadReq w) (tileOf invalid (forLoad w) q1 q2 q3))
+unfolding applied made numbersIn moves.asks moves.refusal moves.roomFor moves.nine moves.kindOf moves.sentOf room moved replyAfter lineAfter valueOf encTile encHead encRequest stateNumber cacheWords waitingNumber waitingWord waitingValue bench.onTile1
 asks-load w q1 q2 q3 =
-    on-room encRequest request-kind q1 (loadReq w) (λ (q : Pair). done 3 0 1 (headed (encHead invalid (forLoad w)) q (encQueue encForward q2) (encQueue encReply q3))) _ ∙ after1 invalid (forLoad w) q2 q3 1 _ _
+    one-room (room (encQueue encRequest q1)) (moves.asks 31 1 w 0) _
+    ∙ on-note encRequest request-kind q1 (loadReq w) 31 w 0 0 refl (λ (q : Pair). done 3 0 1 (headed (encHead invalid (forLoad w)) q (encQueue encForward q2) (encQueue encReply q3))) _
+    ∙ after1 invalid (forLoad w) q2 q3 1 _ _
 
 asks-store : (w v : ℕ) (c : Cache) (q1 : Queue Request) (q2 : Queue Forward) (q3 : Queue Reply) →
-    asks 2 2 w v (encTile (tileOf c nothing q1 q2 q3)) ≡ encAfter 3 0 1 (encTile (tileOf c nothing q1 q2 q3)) (bench.onTile1 (storeReq w) (tileOf c (forStore w v) q1 q2 q3))
-unfolding asks encTile encHead encRequest waitingNumber waitingWord waitingValue bench.onTile1
+    applied (encTile (tileOf c nothing q1 q2 q3)) (moves.asks 2 2 w v)
+    ≡ encAfter 3 0 1 (encTile (tileOf c nothing q1 q2 q3)) (bench.onTile1 (storeReq w) (tileOf c (forStore w v) q1 q2 q3))
+unfolding applied made numbersIn moves.asks moves.refusal moves.roomFor moves.nine moves.kindOf moves.sentOf room moved replyAfter lineAfter valueOf encTile encHead encRequest waitingNumber waitingWord waitingValue bench.onTile1
 asks-store w v c q1 q2 q3 =
-    on-room encRequest request-kind q1 (storeReq w) (λ (q : Pair). done 3 0 1 (headed (encHead c (forStore w v)) q (encQueue encForward q2) (encQueue encReply q3))) _ ∙ after1 c (forStore w v) q2 q3 1 _ _
+    one-room (room (encQueue encRequest q1)) (moves.asks 2 2 w v) _
+    ∙ on-note encRequest request-kind q1 (storeReq w) 2 w 0 0 refl (λ (q : Pair). done 3 0 1 (headed (encHead c (forStore w v)) q (encQueue encForward q2) (encQueue encReply q3))) _
+    ∙ after1 c (forStore w v) q2 q3 1 _ _
 
 -- a test passed on
 step-cond : (b : TileBlock) (t : Bool) (r s : Result Tile) → encStep b (cond t r s) ≡ cond t (encStep b r) (encStep b s)
 step-cond b true r s = refl
 step-cond b false r s = refl
 
+move-cond : (x : TileBlock) (t : Bool) (m n : TileMove) → applied x (cond t m n) ≡ cond t (applied x m) (applied x n)
+move-cond x true m n = refl
+move-cond x false m n = refl
+
 cond-both : {A : Type 0} (t : Bool) (a b c d : A) → a ≡ b → c ≡ d → cond t a c ≡ cond t b d
 cond-both t a b c d e f = rw (e, f)
 
 load-word : (t w : ℕ) (x : Tile) →
-    cond (eqb (encTile x .head .n1) 0) (cond (eqb (encTile x .head .n0) 0) (asks 31 1 w 0 (encTile x)) (done 1 (getD (encTile x .head .words) w 0) 0 (encTile x))) (refuse 4 (encTile x))
+    applied (encTile x) (cond (eqb (numbersIn (encTile x) .waits) 0) (cond (eqb (numbersIn (encTile x) .state) 0) (moves.asks 31 1 w 0) (moves.reads w)) (moves.stop 4))
     ≡ encStep (encTile x) (rules.loadAt t w x)
-unfolding encTile encHead stateNumber cacheWords waitingNumber rightNumber rules.loadAt encStep encAfter sentOn ownAll ownTo ownOne
+unfolding applied settled stepOf made numbersIn moves.reads moves.stop moves.refusal moves.roomFor moves.nine moves.kindOf moves.sentOf moved replyAfter lineAfter valueOf encTile encHead stateNumber cacheWords waitingNumber waitingWord waitingValue rightNumber rules.loadAt encStep encAfter sentOn ownAll ownTo ownOne
 load-word t w (tileOf c (forLoad u) q1 q2 q3) = refl
 load-word t w (tileOf c (forStore u v) q1 q2 q3) = refl
 load-word t w (tileOf (valid shared ws) nothing q1 q2 q3) = refl
@@ -132,16 +167,18 @@ load-word t w (tileOf (valid exclusive ws) nothing q1 q2 q3) = refl
 load-word t w (tileOf (valid modified ws) nothing q1 q2 q3) = refl
 load-word t w (tileOf invalid nothing q1 q2 q3) = asks-load w q1 q2 q3
 
-pub load-rule : (t w : ℕ) (x : Tile) → loadOn w (encTile x) ≡ encStep (encTile x) (bench.atWord w (rules.loadAt t w x))
-unfolding loadOn bench.atWord encStep
-load-rule t w x = cond-both (ltb w 8) _ _ _ _ (load-word t w x) refl ∙ sym (step-cond (encTile x) (ltb w 8) _ _)
+no-word : (x : TileBlock) → applied x (moves.stop 3) ≡ refuse 3 x
+unfolding applied settled stepOf made moves.stop moves.refusal
+no-word x = refl
+
+load-rule : (t w : ℕ) (x : Tile) → applied (encTile x) (moves.load (numbersIn (encTile x)) w) ≡ encStep (encTile x) (bench.atWord w (rules.loadAt t w x))
+unfolding moves.load bench.atWord encStep
+load-rule t w x = move-cond (encTile x) (ltb w 8) _ _ ∙ cond-both (ltb w 8) _ _ _ _ (load-word t w x) (no-word (encTile x)) ∙ sym (step-cond (encTile x) (ltb w 8) _ _)
 
 store-word : (t w v : ℕ) (x : Tile) →
-    cond (eqb (encTile x .head .n1) 0)
-    (cond (ltb (encTile x .head .n0) 2) (asks 2 2 w v (encTile x)) (done 2 0 0 (headed (row 3 0 0 0 (set (encTile x .head .words) w v)) (encTile x .noc1) (encTile x .noc2) (encTile x .noc3))))
-    (refuse 4 (encTile x))
+    applied (encTile x) (cond (eqb (numbersIn (encTile x) .waits) 0) (cond (ltb (numbersIn (encTile x) .state) 2) (moves.asks 2 2 w v) (moves.stores w v)) (moves.stop 4))
     ≡ encStep (encTile x) (rules.storeAt t w v x)
-unfolding encTile encHead stateNumber cacheWords waitingNumber waitingWord waitingValue rightNumber rules.storeAt encStep encAfter sentOn ownAll ownTo ownOne
+unfolding applied settled stepOf made numbersIn moves.stores moves.stop moves.refusal moves.roomFor moves.nine moves.kindOf moves.sentOf moved replyAfter lineAfter valueOf encTile encHead stateNumber cacheWords waitingNumber waitingWord waitingValue rightNumber rules.storeAt encStep encAfter sentOn ownAll ownTo ownOne
 store-word t w v (tileOf c (forLoad u) q1 q2 q3) = refl
 store-word t w v (tileOf c (forStore u y) q1 q2 q3) = refl
 store-word t w v (tileOf (valid modified ws) nothing q1 q2 q3) = refl
@@ -149,97 +186,137 @@ store-word t w v (tileOf (valid exclusive ws) nothing q1 q2 q3) = refl
 store-word t w v (tileOf (valid shared ws) nothing q1 q2 q3) = asks-store w v (valid shared ws) q1 q2 q3
 store-word t w v (tileOf invalid nothing q1 q2 q3) = asks-store w v invalid q1 q2 q3
 
-pub store-rule : (t w v : ℕ) (x : Tile) → storeOn w v (encTile x) ≡ encStep (encTile x) (bench.atWord w (rules.storeAt t w v x))
-unfolding storeOn bench.atWord encStep
-store-rule t w v x = cond-both (ltb w 8) _ _ _ _ (store-word t w v x) refl ∙ sym (step-cond (encTile x) (ltb w 8) _ _)
+store-rule : (t w v : ℕ) (x : Tile) → applied (encTile x) (moves.store (numbersIn (encTile x)) w v) ≡ encStep (encTile x) (bench.atWord w (rules.storeAt t w v x))
+unfolding moves.store bench.atWord encStep
+store-rule t w v x = move-cond (encTile x) (ltb w 8) _ _ ∙ cond-both (ltb w 8) _ _ _ _ (store-word t w v x) (no-word (encTile x)) ∙ sym (step-cond (encTile x) (ltb w 8) _ _)
 
 -- WB_REQ, then WBGUARD_REQ
 guards : (t : ℕ) (p : Waiting) (q1 : Queue Request) (q2 : Queue Forward) (b : TileBlock) (o : Option (Queue Reply)) →
     orElse (refuse 9 b)
-    (λ (q : Queue Reply). cond (room (encQueue encRequest q1)) (done 3 0 6 (headed (encHead invalid p) (push (encQueue encRequest q1) (encRequest wbGuardReq)) (encQueue encForward q2) (encQueue encReply q))) (refuse 9 b)) o
+    (λ (q : Queue Reply). cond (room (encQueue encRequest q1)) (done 3 0 6 (headed (encHead invalid p) (note (encQueue encRequest q1) 13 0 0 0) (encQueue encForward q2) (encQueue encReply q))) (refuse 9 b)) o
     ≡ encAfter 3 0 6 b (ownTo (onNoc1 t wbGuardReq) (Option·map (λ q. tileOf invalid p q1 q2 q) o))
-unfolding orElse encAfter ownTo ownOne bench.onTile1
+unfolding orElse encAfter encRequest ownTo ownOne bench.onTile1
 guards t p q1 q2 b none = refl
 guards t p q1 q2 b (some q) =
-    on-room encRequest request-kind q1 wbGuardReq (λ (z : Pair). done 3 0 6 (headed (encHead invalid p) z (encQueue encForward q2) (encQueue encReply q))) (refuse 9 b) ∙ after1 invalid p q2 q 6 b (bench.push wbGuardReq q1)
+    on-note encRequest request-kind q1 wbGuardReq 13 0 0 0 refl (λ (z : Pair). done 3 0 6 (headed (encHead invalid p) z (encQueue encForward q2) (encQueue encReply q))) (refuse 9 b) ∙ after1 invalid p q2 q 6 b (bench.push wbGuardReq q1)
 
-pub evict-rule : (t : ℕ) (x : Tile) → evictOn (encTile x) ≡ encStep (encTile x) (rules.evictAt t x)
-unfolding evictOn writesBack dropped encTile encHead stateNumber cacheWords rightNumber encRequest encReply rules.evictAt encStep encAfter sentOn ownAll ownTo ownOne bench.onTile3
+evict-rule : (t : ℕ) (x : Tile) → applied (encTile x) (moves.evict (numbersIn (encTile x))) ≡ encStep (encTile x) (rules.evictAt t x)
+unfolding applied settled stepOf made numbersIn moves.evict moves.writesBack moves.drops moves.stop moves.refusal moves.roomFor moves.nine moves.kindOf moves.sentOf room moved replyAfter lineAfter valueOf encTile encHead stateNumber cacheWords rightNumber encReply rules.evictAt encStep encAfter sentOn ownAll ownTo ownOne bench.onTile3
 evict-rule t (tileOf invalid p q1 q2 q3) = refl
 evict-rule t (tileOf (valid shared ws) p q1 q2 q3) = refl
 evict-rule t (tileOf (valid exclusive ws) p q1 q2 q3) = refl
 evict-rule t (tileOf (valid modified ws) p q1 q2 q3) =
-    on-room encReply reply-kind q3 (wbReq ws)
-    (λ (z : Pair). cond (room (encQueue encRequest q1)) (done 3 0 6 (headed (encHead invalid p) (push (encQueue encRequest q1) (encRequest wbGuardReq)) (encQueue encForward q2) z)) (refuse 9 (encTile (tileOf (valid modified ws) p q1 q2 q3))))
+    both-room (room (encQueue encReply q3)) (room (encQueue encRequest q1)) moves.writesBack _
+    ∙ on-room encReply reply-kind q3 (wbReq ws)
+    (λ (z : Pair). cond (room (encQueue encRequest q1)) (done 3 0 6 (headed (encHead invalid p) (note (encQueue encRequest q1) 13 0 0 0) (encQueue encForward q2) z)) (refuse 9 (encTile (tileOf (valid modified ws) p q1 q2 q3))))
     _
     ∙ guards t p q1 q2 (encTile (tileOf (valid modified ws) p q1 q2 q3)) (bench.push (wbReq ws) q3)
 
--- an ack of a forward, with the cache c after it
-answers-law : (a : Reply) (c d : Cache) (p : Waiting) (q1 : Queue Request) (q2 : Queue Forward) (q3 : Queue Reply) →
-    answers (stateNumber c) (cacheWords c) (encReply a) (encTile (tileOf d p q1 q2 q3)) ≡ encAfter 3 0 3 (encTile (tileOf d p q1 q2 q3)) (bench.onTile3 a (tileOf c p q1 (bench.rest q2) q3))
-unfolding answers encTile encHead bench.onTile3
-answers-law a c d p q1 q2 q3 =
-    rw (rest-queue encForward q2) (on-room encReply reply-kind q3 a (λ (z : Pair). done 3 0 3 (headed (encHead c p) (encQueue encRequest q1) (encQueue encForward (bench.rest q2)) z)) _
-    ∙ after3 c p q1 (bench.rest q2) _ (bench.push a q3))
+-- delivery of m, behind which b stands on NoC2; q is what is left there
+module _ (t : ℕ) (q1 : Queue Request) (q3 : Queue Reply) (b : Row) (q : Queue Forward) (left : (x : Row) → pop (record { a = x; b = b }) ≡ encQueue encForward q) where
+  abbrev block : Forward → Cache → Waiting → TileBlock
+  block m c p = headed (encHead c p) (encQueue encRequest q1) (record { a = encForward m; b = b }) (encQueue encReply q3)
 
-fills-law : (k v : ℕ) (c d : Cache) (p : Waiting) (q1 : Queue Request) (q2 : Queue Forward) (q3 : Queue Reply) →
-    fills k v (stateNumber c) (cacheWords c) (encTile (tileOf d p q1 q2 q3)) ≡ done k v 0 (encTile (tileOf c nothing q1 (bench.rest q2) q3))
-unfolding fills encTile encHead waitingNumber waitingWord waitingValue
-fills-law k v c d p q1 q2 q3 = rw (rest-queue encForward q2)
+  -- an ack of a forward, without data and with data, with the cache c after it
+  noted : (x : TileBlock) (y : Row) (a : Reply) (c : Cache) (p : Waiting) (k r : ℕ) → encReply a ≡ row k 0 r 0 zeros →
+      cond (room (encQueue encReply q3)) (done 3 0 3 (headed (encHead c p) (encQueue encRequest q1) (pop (record { a = y; b = b })) (note (encQueue encReply q3) k 0 r 0))) (refuse 9 x)
+      ≡ encAfter 3 0 3 x (bench.onTile3 a (tileOf c p q1 q q3))
+  unfolding bench.onTile3
+  noted x y a c p k r e =
+      rw (left y) (on-note encReply reply-kind q3 a k 0 r 0 e (λ (z : Pair). done 3 0 3 (headed (encHead c p) (encQueue encRequest q1) (encQueue encForward q) z)) _ ∙ after3 c p q1 q _ (bench.push a q3))
 
-module _ (t : ℕ) (q1 : Queue Request) (q2 : Queue Forward) (q3 : Queue Reply) where
-  load-fwd : (c : Cache) (p : Waiting) → onLoadFwd (stateNumber c) (encTile (tileOf c p q1 q2 q3)) ≡ encStep (encTile (tileOf c p q1 q2 q3)) (rules.received t (rules.receive loadFwd c p) c p q1 (bench.rest q2) q3)
-  unfolding onLoadFwd encTile encHead encReply stateNumber cacheWords rightNumber rules.receive rules.received encStep sentOn ownAll ownTo ownOne
-  load-fwd invalid p = answers-law loadFwdAckI invalid invalid p q1 q2 q3
+  pushed : (x : TileBlock) (y : Row) (a : Reply) (c : Cache) (p : Waiting) →
+      cond (room (encQueue encReply q3)) (done 3 0 3 (headed (encHead c p) (encQueue encRequest q1) (pop (record { a = y; b = b })) (push (encQueue encReply q3) (encReply a)))) (refuse 9 x)
+      ≡ encAfter 3 0 3 x (bench.onTile3 a (tileOf c p q1 q q3))
+  unfolding bench.onTile3
+  pushed x y a c p =
+      rw (left y) (on-room encReply reply-kind q3 a (λ (z : Pair). done 3 0 3 (headed (encHead c p) (encQueue encRequest q1) (encQueue encForward q) z)) _ ∙ after3 c p q1 q _ (bench.push a q3))
+
+  -- the line comes in
+  filled : (y : Row) (k v : ℕ) (c : Cache) → done k v 0 (headed (encHead c nothing) (encQueue encRequest q1) (pop (record { a = y; b = b })) (encQueue encReply q3)) ≡ done k v 0 (encTile (tileOf c nothing q1 q q3))
+  unfolding encTile
+  filled y k v c = rw (left y)
+
+  load-fwd : (c : Cache) (p : Waiting) → applied (block loadFwd c p) (moves.loadFwd (numbersIn (block loadFwd c p))) ≡ encStep (block loadFwd c p) (rules.received t (rules.receive loadFwd c p) c p q1 q q3)
+  unfolding applied settled stepOf made numbersIn moves.loadFwd moves.answers moves.stop moves.refusal moves.roomFor moves.nine moves.kindOf moves.sentOf room moved replyAfter lineAfter valueOf encHead encReply stateNumber cacheWords rightNumber rules.receive rules.received encStep sentOn ownAll ownTo ownOne
+  load-fwd invalid p = one-room (room (encQueue encReply q3)) (moves.loadFwd (numbersIn (block loadFwd invalid p))) _ ∙ noted _ _ loadFwdAckI invalid p 21 0 refl
   load-fwd (valid shared ws) p = refl
-  load-fwd (valid exclusive ws) p = answers-law (loadFwdAckS none) (valid shared ws) (valid exclusive ws) p q1 q2 q3
-  load-fwd (valid modified ws) p = answers-law (loadFwdAckS (some ws)) (valid shared ws) (valid modified ws) p q1 q2 q3
+  load-fwd (valid exclusive ws) p = one-room (room (encQueue encReply q3)) (moves.loadFwd (numbersIn (block loadFwd (valid exclusive ws) p))) _ ∙ noted _ _ (loadFwdAckS none) (valid shared ws) p 21 1 refl
+  load-fwd (valid modified ws) p = one-room (room (encQueue encReply q3)) (moves.loadFwd (numbersIn (block loadFwd (valid modified ws) p))) _ ∙ pushed _ _ (loadFwdAckS (some ws)) (valid shared ws) p
 
-  store-fwd : (c : Cache) (p : Waiting) → onStoreFwd (stateNumber c) (encTile (tileOf c p q1 q2 q3)) ≡ encStep (encTile (tileOf c p q1 q2 q3)) (rules.received t (rules.receive storeFwd c p) c p q1 (bench.rest q2) q3)
-  unfolding onStoreFwd encTile encHead encReply stateNumber cacheWords rightNumber rules.receive rules.received encStep sentOn ownAll ownTo ownOne
-  store-fwd invalid p = answers-law (storeFwdAck none) invalid invalid p q1 q2 q3
+  store-fwd : (c : Cache) (p : Waiting) → applied (block storeFwd c p) (moves.storeFwd (numbersIn (block storeFwd c p))) ≡ encStep (block storeFwd c p) (rules.received t (rules.receive storeFwd c p) c p q1 q q3)
+  unfolding applied settled stepOf made numbersIn moves.storeFwd moves.answers moves.stop moves.refusal moves.roomFor moves.nine moves.kindOf moves.sentOf room moved replyAfter lineAfter valueOf encHead encReply stateNumber cacheWords rightNumber rules.receive rules.received encStep sentOn ownAll ownTo ownOne
+  store-fwd invalid p = one-room (room (encQueue encReply q3)) (moves.storeFwd (numbersIn (block storeFwd invalid p))) _ ∙ noted _ _ (storeFwdAck none) invalid p 22 0 refl
   store-fwd (valid shared ws) p = refl
-  store-fwd (valid exclusive ws) p = answers-law (storeFwdAck none) invalid (valid exclusive ws) p q1 q2 q3
-  store-fwd (valid modified ws) p = answers-law (storeFwdAck (some ws)) invalid (valid modified ws) p q1 q2 q3
+  store-fwd (valid exclusive ws) p = one-room (room (encQueue encReply q3)) (moves.storeFwd (numbersIn (block storeFwd (valid exclusive ws) p))) _ ∙ noted _ _ (storeFwdAck none) invalid p 22 0 refl
+  store-fwd (valid modified ws) p = one-room (room (encQueue encReply q3)) (moves.storeFwd (numbersIn (block storeFwd (valid modified ws) p))) _ ∙ pushed _ _ (storeFwdAck (some ws)) invalid p
 
-  inv-fwd : (c : Cache) (p : Waiting) → onInvFwd (stateNumber c) (encTile (tileOf c p q1 q2 q3)) ≡ encStep (encTile (tileOf c p q1 q2 q3)) (rules.received t (rules.receive invFwd c p) c p q1 (bench.rest q2) q3)
-  unfolding onInvFwd encTile encHead encReply stateNumber cacheWords rightNumber rules.receive rules.received encStep sentOn ownAll ownTo ownOne
-  inv-fwd invalid p = answers-law invFwdAck invalid invalid p q1 q2 q3
-  inv-fwd (valid shared ws) p = answers-law invFwdAck invalid (valid shared ws) p q1 q2 q3
+  inv-fwd : (c : Cache) (p : Waiting) → applied (block invFwd c p) (moves.invFwd (numbersIn (block invFwd c p))) ≡ encStep (block invFwd c p) (rules.received t (rules.receive invFwd c p) c p q1 q q3)
+  unfolding applied settled stepOf made numbersIn moves.invFwd moves.answers moves.stop moves.refusal moves.roomFor moves.nine moves.kindOf moves.sentOf room moved replyAfter lineAfter valueOf encHead encReply stateNumber cacheWords rightNumber rules.receive rules.received encStep sentOn ownAll ownTo ownOne
+  inv-fwd invalid p = one-room (room (encQueue encReply q3)) (moves.invFwd (numbersIn (block invFwd invalid p))) _ ∙ noted _ _ invFwdAck invalid p 23 0 refl
+  inv-fwd (valid shared ws) p = one-room (room (encQueue encReply q3)) (moves.invFwd (numbersIn (block invFwd (valid shared ws) p))) _ ∙ noted _ _ invFwdAck invalid p 23 0 refl
   inv-fwd (valid exclusive ws) p = refl
   inv-fwd (valid modified ws) p = refl
 
   data-ack : (r : Right) (miss : Bool) (ws : Words) (c : Cache) (p : Waiting) →
-      onDataAck (rightNumber r) ws (encTile (tileOf c p q1 q2 q3)) ≡ encStep (encTile (tileOf c p q1 q2 q3)) (rules.received t (rules.receive (dataAck r miss ws) c p) c p q1 (bench.rest q2) q3)
-  unfolding onDataAck onStoreFill onLoadFill encTile encHead stateNumber cacheWords waitingNumber waitingWord waitingValue rightNumber rules.receive rules.fill rules.received encStep encAfter sentOn ownAll
+      applied (block (dataAck r miss ws) c p) (moves.fill (numbersIn (block (dataAck r miss ws) c p))) ≡ encStep (block (dataAck r miss ws) c p) (rules.received t (rules.receive (dataAck r miss ws) c p) c p q1 q q3)
+  unfolding applied settled stepOf made numbersIn moves.fill moves.storeFill moves.loadFill moves.loads moves.fills moves.stop moves.refusal moves.roomFor moves.nine moves.kindOf moves.sentOf moved replyAfter lineAfter valueOf encForward encHead stateNumber cacheWords waitingNumber waitingWord waitingValue rightNumber rules.receive rules.fill rules.received encStep encAfter sentOn ownAll
   data-ack modified miss ws c nothing = refl
   data-ack modified miss ws invalid (forLoad w) = refl
   data-ack modified miss ws (valid x us) (forLoad w) = refl
-  data-ack modified miss ws invalid (forStore w v) = fills-law 2 0 (valid modified (set ws w v)) invalid (forStore w v) q1 q2 q3
-  data-ack modified miss ws (valid shared us) (forStore w v) = fills-law 2 0 (valid modified (set ws w v)) (valid shared us) (forStore w v) q1 q2 q3
+  data-ack modified miss ws invalid (forStore w v) = filled _ 2 0 (valid modified (set ws w v))
+  data-ack modified miss ws (valid shared us) (forStore w v) = filled _ 2 0 (valid modified (set ws w v))
   data-ack modified miss ws (valid exclusive us) (forStore w v) = refl
   data-ack modified miss ws (valid modified us) (forStore w v) = refl
   data-ack shared miss ws c nothing = refl
-  data-ack shared miss ws invalid (forLoad w) = fills-law 1 (getD ws w 0) (valid shared ws) invalid (forLoad w) q1 q2 q3
+  data-ack shared miss ws invalid (forLoad w) = filled _ 1 (getD ws w 0) (valid shared ws)
   data-ack shared miss ws (valid shared us) (forLoad w) = refl
   data-ack shared miss ws (valid exclusive us) (forLoad w) = refl
   data-ack shared miss ws (valid modified us) (forLoad w) = refl
   data-ack shared miss ws c (forStore w v) = refl
   data-ack exclusive miss ws c nothing = refl
-  data-ack exclusive miss ws invalid (forLoad w) = fills-law 1 (getD ws w 0) (valid exclusive ws) invalid (forLoad w) q1 q2 q3
+  data-ack exclusive miss ws invalid (forLoad w) = filled _ 1 (getD ws w 0) (valid exclusive ws)
   data-ack exclusive miss ws (valid shared us) (forLoad w) = refl
   data-ack exclusive miss ws (valid exclusive us) (forLoad w) = refl
   data-ack exclusive miss ws (valid modified us) (forLoad w) = refl
   data-ack exclusive miss ws c (forStore w v) = refl
 
-pub deliver-rule : (t : ℕ) (x : Tile) → deliverOn (encTile x) ≡ encStep (encTile x) (rules.deliverTo t x)
-unfolding deliverOn onForward encTile encHead stateNumber encQueue encForward bench.rest rules.deliverTo encStep
-deliver-rule t (tileOf c p q1 empty q3) = refl
-deliver-rule t (tileOf c p q1 (one loadFwd) q3) = load-fwd t q1 (one loadFwd) q3 c p
-deliver-rule t (tileOf c p q1 (one storeFwd) q3) = store-fwd t q1 (one storeFwd) q3 c p
-deliver-rule t (tileOf c p q1 (one invFwd) q3) = inv-fwd t q1 (one invFwd) q3 c p
-deliver-rule t (tileOf c p q1 (one (dataAck r miss ws)) q3) = data-ack t q1 (one (dataAck r miss ws)) q3 r miss ws c p
-deliver-rule t (tileOf c p q1 (two loadFwd n) q3) = load-fwd t q1 (two loadFwd n) q3 c p
-deliver-rule t (tileOf c p q1 (two storeFwd n) q3) = store-fwd t q1 (two storeFwd n) q3 c p
-deliver-rule t (tileOf c p q1 (two invFwd n) q3) = inv-fwd t q1 (two invFwd n) q3 c p
-deliver-rule t (tileOf c p q1 (two (dataAck r miss ws) n) q3) = data-ack t q1 (two (dataAck r miss ws) n) q3 r miss ws c p
+  front-rule : (m : Forward) (c : Cache) (p : Waiting) → applied (block m c p) (moves.deliver (numbersIn (block m c p))) ≡ encStep (block m c p) (rules.received t (rules.receive m c p) c p q1 q q3)
+  unfolding moves.deliver moves.forward numbersIn encForward
+  front-rule loadFwd c p = load-fwd c p
+  front-rule storeFwd c p = store-fwd c p
+  front-rule invFwd c p = inv-fwd c p
+  front-rule (dataAck r miss ws) c p = data-ack r miss ws c p
+
+last-left : (x : Row) → pop (record { a = x; b = noRow }) ≡ encQueue encForward empty
+unfolding pop encQueue
+last-left x = refl
+
+second-left : (n : Forward) (x : Row) → pop (record { a = x; b = encForward n }) ≡ encQueue encForward (one n)
+unfolding pop encQueue
+second-left n x = rw (forward-kind n)
+
+none-rule : (h : Row) (x z : Pair) → applied (headed h x (record { a = noRow; b = noRow }) z) (moves.deliver (numbersIn (headed h x (record { a = noRow; b = noRow }) z))) ≡ refuse 7 (headed h x (record { a = noRow; b = noRow }) z)
+unfolding applied settled stepOf made numbersIn moves.deliver moves.stop moves.refusal
+none-rule h x z = refl
+
+deliver-rule : (t : ℕ) (x : Tile) → applied (encTile x) (moves.deliver (numbersIn (encTile x))) ≡ encStep (encTile x) (rules.deliverTo t x)
+unfolding encTile encQueue rules.deliverTo encStep
+deliver-rule t (tileOf c p q1 empty q3) = none-rule (encHead c p) (encQueue encRequest q1) (encQueue encReply q3)
+deliver-rule t (tileOf c p q1 (one m) q3) = front-rule t q1 q3 noRow empty last-left m c p
+deliver-rule t (tileOf c p q1 (two m n) q3) = front-rule t q1 q3 (encForward n) (one n) (second-left n) m c p
+
+-- the four calls by tag
+unfoldable pub ruleOf : ℕ → ℕ → ℕ → ℕ → Tile → Result Tile
+ruleOf c t w v x = cond (eqb c 16) (bench.atWord w (rules.loadAt t w x)) (cond (eqb c 17) (bench.atWord w (rules.storeAt t w v x)) (cond (eqb c 18) (rules.evictAt t x) (rules.deliverTo t x)))
+
+pub rule-numbers : (c t w v : ℕ) (x : Tile) → tileStepOn c w v (encTile x) ≡ encStep (encTile x) (ruleOf c t w v x)
+unfolding tileStepOn moves.step ruleOf
+rule-numbers c t w v x = go (eqb c 16) (eqb c 17) (eqb c 18)
+  where
+    go : (a b d : Bool) → applied (encTile x) (cond a (moves.load (numbersIn (encTile x)) w) (cond b (moves.store (numbersIn (encTile x)) w v) (cond d (moves.evict (numbersIn (encTile x))) (moves.deliver (numbersIn (encTile x))))))
+        ≡ encStep (encTile x) (cond a (bench.atWord w (rules.loadAt t w x)) (cond b (bench.atWord w (rules.storeAt t w v x)) (cond d (rules.evictAt t x) (rules.deliverTo t x))))
+    go true b d = load-rule t w x
+    go false true d = store-rule t w v x
+    go false false true = evict-rule t x
+    go false false false = deliver-rule t x

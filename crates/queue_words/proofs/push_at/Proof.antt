@@ -4,24 +4,10 @@ use Rattle.queue_words.proofs.push_at.Statement.{statement}
 use Rattle.queue_words.proofs.push_at.Tie as tie
 
 returns : tie.Need-returns
-returns c = push-first _ _ _ (c .before .before .before .before .before .before .before .before .before .before .before .before .args .at) (c .before .before .before .before .before .before .before .before .before .before .before .before .args .m) _ (c .before .before .before .before .before .before .before .before .before .before .before .before .pre) (c .before .before .before .before .before .before .before .before .before .if1 .taken) (c .before .before .before .before .before .before .before .write-row .ensures .1) (c .before .before .before .before .before .before .before .write-row .ensures .0) (c .before .before .before .bare .ensures) (c .before .before .write-row2 .ensures .0)
+returns c = push-first _ _ (c .before .before .before .before .before .before .before .args .at) (c .before .before .before .before .before .before .before .args .m) (c .before .before .before .before .before .before .before .pre) (c .before .before .before .before .if1 .taken) (c .before .before .write-row .ensures .1) (c .before .before .write-row .ensures .0)
 
 returns-2 : tie.Need-returns-2
-returns-2 c = push-second _ _ (c .before .before .before .before .before .before .before .args .at) (c .before .before .before .before .before .before .before .args .m) (c .before .before .before .before .before .before .before .pre) (c .before .before .before .before .if1 .left) (c .before .before .write-row3 .ensures .1) (c .before .before .write-row3 .ensures .0)
+returns-2 c = push-second _ _ (c .before .before .before .before .before .before .before .args .at) (c .before .before .before .before .before .before .before .args .m) (c .before .before .before .before .before .before .before .pre) (c .before .before .before .before .if1 .left) (c .before .before .write-row2 .ensures .1) (c .before .before .write-row2 .ensures .0)
 
 pub push-at-spec : {M : Type 1} → statement M
-push-at-spec =
-    tie.close
-    (tie.spec
-    (λ c. search needs)
-    (λ c. search needs)
-    (λ c κs. search needs)
-    (λ c. search needs)
-    (λ c κs. search needs)
-    (λ c κs. search needs)
-    (λ c. search needs)
-    (λ c κs. search needs)
-    (λ c. search needs)
-    returns
-    (λ c. search needs)
-    returns-2)
+push-at-spec = tie.close (tie.spec (λ c. search needs) (λ c. search needs) (λ c κs. search needs) (λ c. search needs) (λ c κs. search needs) (λ c. search needs) returns (λ c. search needs) returns-2)

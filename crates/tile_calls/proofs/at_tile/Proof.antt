@@ -1,11 +1,9 @@
-use Prim.Native.Nat.{_<_}
 use mathlib.Core.Path.{refl, sym, _∙_}
 use native.Mathlib.Omega.{arith}
-use Rattle.words.specs.Blocks.{tileAt, rowAt}
 use Rattle.call_tags.specs.Tags.{tileCall}
 use Rattle.calls.proofs.Decoded.{found}
 use Rattle.calls.proofs.Meets.{malformed}
-use Rattle.tile_calls.proofs.TileCalls.{no-tile, refused-in-place, done-in-place, word-below}
+use Rattle.tile_calls.proofs.TileCalls.{no-tile, refused-in-place, done-in-place}
 use borrow.Author.Needs.{needs}
 use Rattle.tile_calls.proofs.at_tile.Statement.{statement}
 use Rattle.tile_calls.proofs.at_tile.Tie as tie
@@ -20,8 +18,7 @@ add-at : tie.Need-add-at
 add-at c = omega (arith, found _ (sym (c .before .before .before .well-formed .ensures) ∙ c .before .before .if1 .taken) .most)
 
 step-at-requires : tie.Need-step-at-requires
-unfolding tileAt rowAt
-step-at-requires c κs = (omega (arith, found _ (sym (c .before .before .before .before .well-formed .ensures) ∙ c .before .before .before .if1 .taken) .enough), word-below (c .before .before .before .before .before .before .before .args .w .now) (c .before .before .before .before .before .before .before .args .c) (c .before .before .before .before .before .before .before .args .t) (c .before .before .before .before .before .before .before .args .word) (c .before .before .before .before .before .before .before .args .value) (sym (c .before .before .before .before .well-formed .ensures) ∙ c .before .before .before .if1 .taken) (c .before .if2 .taken) _ refl)
+step-at-requires c κs = omega (arith, found _ (sym (c .before .before .before .before .well-formed .ensures) ∙ c .before .before .before .if1 .taken) .enough)
 
 returns : tie.Need-returns
 returns c =
