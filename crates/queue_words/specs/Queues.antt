@@ -1,9 +1,9 @@
 -- A queue of a bench, in numbers: its first message and its second, type 0 for none.
+use Prim.Native.Nat.{ℕ}
 use mathlib.Core.Bool.{Bool, cond}
 use lib.Dec.{eqb}
 use Rattle.words.specs.declared.Row.{Row}
 use Rattle.words.specs.declared.Pair.{Pair}
-use Prim.Native.Nat.{ℕ}
 use Rattle.codec.specs.Encode.{noRow, row}
 
 -- a queue has room while its second place is free

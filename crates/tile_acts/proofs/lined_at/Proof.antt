@@ -1,7 +1,7 @@
 use Rattle.tile_numbers.proofs.InPlace.{line-none, line-some}
 use borrow.Author.Needs.{needs}
-use Rattle.tile_words.proofs.lined_at.Statement.{statement}
-use Rattle.tile_words.proofs.lined_at.Tie as tie
+use Rattle.tile_acts.proofs.lined_at.Statement.{statement}
+use Rattle.tile_acts.proofs.lined_at.Tie as tie
 
 returns : tie.Need-returns
 returns c = line-none _ _ (c .before .before .before .before .before .before .args .at) (c .before .before .before .before .before .before .pre) _ (c .before .before .before .before .if1 .taken) (c .before .before .emptied-at .ensures)

@@ -1,8 +1,8 @@
 use Rattle.words.specs.Blocks.{tileAt, rowAt}
-use Rattle.tile_words.proofs.Acts.{then-request}
+use Rattle.tile_acts.proofs.Then.{then-request}
 use borrow.Author.Needs.{needs}
-use Rattle.tile_words.proofs.asked_at.Statement.{statement}
-use Rattle.tile_words.proofs.asked_at.Tie as tie
+use Rattle.tile_acts.proofs.asked_at.Statement.{statement}
+use Rattle.tile_acts.proofs.asked_at.Tie as tie
 
 returns : tie.Need-returns
 unfolding tileAt rowAt

@@ -1,7 +1,7 @@
 use Rattle.tile_numbers.proofs.InPlace.{reply-bare, reply-data}
 use borrow.Author.Needs.{needs}
-use Rattle.tile_words.proofs.reply_at.Statement.{statement}
-use Rattle.tile_words.proofs.reply_at.Tie as tie
+use Rattle.tile_acts.proofs.reply_at.Statement.{statement}
+use Rattle.tile_acts.proofs.reply_at.Tie as tie
 
 returns : tie.Need-returns
 returns c = reply-bare _ _ (c .before .before .before .before .before .before .args .at) (c .before .before .before .before .before .before .pre) _ _ _ (c .before .before .before .before .if1 .taken) (c .before .before .note-at .ensures .1) (c .before .before .note-at .ensures .0)
