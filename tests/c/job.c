@@ -6,9 +6,7 @@
 
 #include "duzhmarqi.h"
 
-#define MOST 65536
-
-static uint8_t job[MOST + 1];
+static uint8_t job[DUZH_MOST_JOB_BYTES + 1];
 static uint64_t words[DUZH_WORDS(DUZH_MOST_TILES)];
 static uint8_t text[DUZH_CALL_TEXT];
 
@@ -24,14 +22,14 @@ static uint64_t make_call(size_t n, size_t at, uint64_t *out, size_t m)
 {
     const uint8_t *v = job + at + 3;
     switch (job[at]) {
-    case 16: return duzh_load(words, n, v[0], v[1], out, m);
-    case 17: return duzh_store(words, n, v[0], v[1], number_at(at + 5, 8), out, m);
-    case 18: return duzh_evict(words, n, v[0], out, m);
-    case 19: return duzh_taking(words, n, out, m);
-    case 20: return duzh_to_tile(words, n, v[0], out, m);
-    case 21: return duzh_from_tile(words, n, v[0], out, m);
-    case 22: return duzh_memory_step(words, n, out, m);
-    case 23: return duzh_memory_ack(words, n, out, m);
+    case DUZH_TAG_LOAD: return duzh_load(words, n, v[0], v[1], out, m);
+    case DUZH_TAG_STORE: return duzh_store(words, n, v[0], v[1], number_at(at + 5, 8), out, m);
+    case DUZH_TAG_EVICT: return duzh_evict(words, n, v[0], out, m);
+    case DUZH_TAG_TAKING: return duzh_taking(words, n, out, m);
+    case DUZH_TAG_TO_TILE: return duzh_to_tile(words, n, v[0], out, m);
+    case DUZH_TAG_FROM_TILE: return duzh_from_tile(words, n, v[0], out, m);
+    case DUZH_TAG_MEMORY_STEP: return duzh_memory_step(words, n, out, m);
+    case DUZH_TAG_MEMORY_ACK: return duzh_memory_ack(words, n, out, m);
     default: return duzh_home_eviction(words, n, out, m);
     }
 }

@@ -6,25 +6,34 @@
 // Any other line is a remark. A call prints: case; well formed before it; refusal, kind, value, sent, tiles; each changed place.
 ghost use mathlib.Core.Path.{_≡_};
 ghost use lib.ListN.{length};
-use answers::Answer;
-use case_lines::at;
-use case_lines::decimal;
-use case_lines::named;
-use case_lines::text;
+use calls::Answer;
 use libc::STDOUT_FILENO;
+use program_io::number_at;
+use program_io::print_decimal;
+use program_io::print_named;
+use program_io::print_text;
+
+// The sizes of the input, of a line of numbers, and of the lent memory, which is more than a bench of 64 tiles needs.
+const INPUT_BYTES: usize = 393216;
+
+const CASE_NUMBERS: usize = 64;
+
+const LENT_WORDS: usize = 5600;
+
+const DECIMAL: u64 = 10;
 
 fn changed(place: usize, word: u64) {
-    decimal(place as u64);
-    text(b"=");
+    print_decimal(place as u64);
+    print_text(b"=");
     io::print_decimal(STDOUT_FILENO, word);
 }
 
 // The word at place i, if it changed; `before` then has it too.
-fn compare_one(before: &mut [u64], w: &[u64], i: usize) {
+fn compare_one(before: &mut [u64], words: &[u64], i: usize) {
     if i < before.len() {
-        if i < w.len() {
+        if i < words.len() {
             let was = before[i];
-            let is = w[i];
+            let is = words[i];
             if was != is {
                 changed(i, is);
                 before[i] = is;
@@ -33,124 +42,130 @@ fn compare_one(before: &mut [u64], w: &[u64], i: usize) {
     }
 }
 
-fn compare(before: &mut [u64], w: &[u64]) {
-    text(b" words");
+fn compare(before: &mut [u64], words: &[u64]) {
+    print_text(b" words");
     let mut i = 0;
-    while i < w.len() {
-        compare_one(before, w, i);
+    while i < words.len() {
+        compare_one(before, words, i);
         i += 1;
     }
-    text(b"\n");
+    print_text(b"\n");
 }
 
-fn formed(w: &[u64]) {
-    let ok = bench_words::well_formed(w);
-    text(b" formed");
+fn formed(words: &[u64]) {
+    let ok = well_formed::well_formed(words);
+    print_text(b" formed");
     if ok {
-        decimal(1);
+        print_decimal(1);
     } else {
-        decimal(0);
+        print_decimal(0);
     }
 }
 
-fn show(a: Answer) {
-    named(b" refusal", a.refusal);
-    named(b" kind", a.kind);
-    named(b" value", a.value);
-    named(b" sent", a.sent);
-    named(b" tiles", a.tiles);
+fn show(answer: Answer) {
+    print_named(b" refusal", answer.refusal);
+    print_named(b" kind", answer.kind);
+    print_named(b" value", answer.value);
+    print_named(b" sent", answer.sent);
+    print_named(b" tiles", answer.tiles);
 }
 
-fn call(w: &mut [u64], tag: u64, tile: u64, word: u64, value: u64) -> Answer {
-    if call_tags::is_tile(tag) {
-        tile_calls::at_tile(w, tag, tile, word, value)
+fn call(words: &mut [u64], tag: u64, tile: u64, word: u64, value: u64) -> Answer {
+    if calls::is_tile_call(tag) {
+        bench::at_tile(words, tag, tile, word, value)
     } else {
-        home_calls::at_home(w, tag, tile)
+        bench::at_home(words, tag, tile)
     }
 }
 
-fn call_on(w: &mut [u64], s: &[u64]) {
-    formed(w);
-    let a = call(w, at(s, 2), at(s, 3), at(s, 4), at(s, 5));
-    show(a);
+fn call_on(words: &mut [u64], numbers: &[u64]) {
+    formed(words);
+    let answer = call(
+        words,
+        number_at(numbers, 2),
+        number_at(numbers, 3),
+        number_at(numbers, 4),
+        number_at(numbers, 5),
+    );
+    show(answer);
 }
 
-fn start_on(w: &mut [u64], s: &[u64]) {
-    formed(w);
+fn start_on(words: &mut [u64], numbers: &[u64]) {
+    formed(words);
     let memory = [
-        at(s, 3),
-        at(s, 4),
-        at(s, 5),
-        at(s, 6),
-        at(s, 7),
-        at(s, 8),
-        at(s, 9),
-        at(s, 10),
+        number_at(numbers, 3),
+        number_at(numbers, 4),
+        number_at(numbers, 5),
+        number_at(numbers, 6),
+        number_at(numbers, 7),
+        number_at(numbers, 8),
+        number_at(numbers, 9),
+        number_at(numbers, 10),
     ];
-    let a = bench_start::start(w, at(s, 2), memory);
-    show(a);
+    let answer = bench::start(words, number_at(numbers, 2), memory);
+    show(answer);
 }
 
-fn one_case(command: u8, s: &[u64], w: &mut [u64]) {
-    text(b"case");
-    decimal(at(s, 0));
-    let room = at(s, 1) as usize;
-    if room <= w.len() {
+fn one_case(command: u8, numbers: &[u64], words: &mut [u64]) {
+    print_text(b"case");
+    print_decimal(number_at(numbers, 0));
+    let room = number_at(numbers, 1) as usize;
+    if room <= words.len() {
         if command == b'c' {
-            call_on(&mut w[..room], s);
+            call_on(&mut words[..room], numbers);
         } else {
-            start_on(&mut w[..room], s);
+            start_on(&mut words[..room], numbers);
         }
     }
 }
 
-fn put(w: &mut [u64], place: usize, word: u64) {
-    if place < w.len() {
-        w[place] = word;
+fn put(words: &mut [u64], place: usize, word: u64) {
+    if place < words.len() {
+        words[place] = word;
     }
 }
 
-fn put_all(s: &[u64], w: &mut [u64], before: &mut [u64]) {
+fn put_all(numbers: &[u64], words: &mut [u64], before: &mut [u64]) {
     let mut i = 0;
-    while i < s.len() {
-        let place = at(s, i) as usize;
-        let word = at(s, i + 1);
-        put(w, place, word);
+    while i < numbers.len() {
+        let place = number_at(numbers, i) as usize;
+        let word = number_at(numbers, i + 1);
+        put(words, place, word);
         put(before, place, word);
         i += 2;
     }
 }
 
-fn run(command: u8, s: &[u64], w: &mut [u64], before: &mut [u64]) {
+fn run(command: u8, numbers: &[u64], words: &mut [u64], before: &mut [u64]) {
     if command == b'w' {
-        put_all(s, w, before);
+        put_all(numbers, words, before);
     } else if command == b'c' || command == b's' {
-        one_case(command, s, w);
-        compare(before, w);
+        one_case(command, numbers, words);
+        compare(before, words);
     }
 }
 
-fn cases(input: &[u8], numbers: &mut [u64], w: &mut [u64], before: &mut [u64]) {
+fn cases(input: &[u8], numbers: &mut [u64], words: &mut [u64], before: &mut [u64]) {
     let mut from = 0;
     while from < input.len() {
-        let line = case_lines::line_at(input, from, 10, numbers);
+        let line = program_io::case_line_at(input, from, DECIMAL, numbers);
         let count = line.count;
-        run(line.command, &numbers[..count], w, before);
+        run(line.command, &numbers[..count], words, before);
         from = line.next;
     }
 }
 
-fn input_buffer() -> [u8; 393216]
+fn input_buffer() -> [u8; INPUT_BYTES]
     ensures { λ r. ⌜ 393216 ≡ length r ⌝ }
 {
-    [0; 393216]
+    [0; INPUT_BYTES]
 }
 
 fn main() {
     let mut input = input_buffer();
-    let mut numbers = [0u64; 64];
-    let mut w = [0u64; 5600];
-    let mut before = [0u64; 5600];
+    let mut numbers = [0u64; CASE_NUMBERS];
+    let mut words = [0u64; LENT_WORDS];
+    let mut before = [0u64; LENT_WORDS];
     let n = io::read_full(0, &mut input);
-    cases(&input[..n], &mut numbers, &mut w, &mut before);
+    cases(&input[..n], &mut numbers, &mut words, &mut before);
 }

@@ -1,3 +1,4 @@
+pub mod Laws
 pub mod Laid
 pub mod Decoded
 pub mod Meets

@@ -8,7 +8,7 @@ use mathlib.Core.Option.{Option, some, none}
 use native.Mathlib.Nat.{add-mul, mul-add, one-mul, suc-mul}
 use native.Mathlib.Omega.{arith}
 use lib.ListN.{length}
-use Rattle.protocol.specs.Parts.{Words, Access, Cache, Waiting, Request, Forward, Reply, Tile, uncached, sharedBy, ownedBy, absent, present, Cause, request, eviction, Clearing, clearForStore, clearForEviction, Home, idle, awaitingLoad, awaitingOwner, awaitingAcks, awaitingStore, Bench}
+use Rattle.protocol.specs.Parts.{Words, Access, Cache, Waiting, Request, Forward, Reply, Tile, uncached, sharedBy, ownedBy, absent, present, Cause, request, eviction, Clearing, clearFor, clearForEviction, Home, idle, awaitingLoad, awaitingOwner, awaitingAcks, awaitingStore, Bench, Task, task, Write, storing}
 use Rattle.protocol.specs.Bench.{tileAt}
 use Rattle.coherence.proofs.Weight.{queueWeight, requestWeight, forwardWeight, replyWeight, outWeight, backWeight, tileWeight, tilesWeight, causeWeight, clearingWeight, homeWeight, measure}
 use Rattle.coherence.proofs.Invariant.{Relation, stranger, sharer, owner, join, Wants, resting, loadQueued, storeQueued, loadCurrent, storeCurrent, sharedGranted, exclusiveGranted, modifiedGranted, not-asked, ask-load, ask-store, ask-inv, Table, stranger-plain, stranger-in, sharer-plain, sharer-replied, owner-plain, owner-replied, owner-shared, owner-out, owner-out-replied, owner-in, owner-in-replied, TileOk, ok, Sees, sees-absent, sees-uncached, sees-sharer, sees-outsider, sees-owner, sees-unowning, loads, loads-not, asked-owner, requester, bystander, owing, storer, cleared-out, sees-leaving, in-mask, off-mask, absent-ok, uncached-ok, shared-ok, owned-ok, idle-ok, load-out, load-back, owner-ok, acks-ok, store-out, store-back, Knowledge, At, at, All, Inv, inv}
@@ -98,7 +98,7 @@ most (idle absent) = 0
 most (idle (present d ws uncached)) = 0
 most (idle (present d ws (sharedBy m))) = 0
 most (idle (present d ws (ownedBy o))) = 1
-most (awaitingLoad r a x) = 0
+most (awaitingLoad r x) = 0
 most (awaitingOwner d ws o c) = 3
 most (awaitingAcks d ws m owed c) = 2
 most (awaitingStore x) = 0
@@ -153,12 +153,12 @@ module _ (ws : Words) (w : ℕ → Waiting) (n k : ℕ) (h : Home) (ts : List Ti
 
 cause-weight : (c : Cause) → causeWeight c ≤ 2
 unfolding causeWeight
-cause-weight (request t a) = omega arith
+cause-weight (request (task t a)) = omega arith
 cause-weight eviction = omega arith
 
 clearing-weight : (c : Clearing) → clearingWeight c ≤ 2
 unfolding clearingWeight
-clearing-weight (clearForStore t) = omega arith
+clearing-weight (clearFor (task t b)) = omega arith
 clearing-weight clearForEviction = omega arith
 
 -- (n + 1) (2 n + 3) in the terms of the sums above

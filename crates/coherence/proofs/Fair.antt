@@ -11,13 +11,17 @@ use borrow.Author.Tests.{lt-ltb, le-ltb, eqb-false}
 use lib.Dec.{ltb, eqb}
 use lib.ListN.{length, set, length-replicate}
 use Rattle.masks.specs.Mask.{has}
-use Rattle.protocol.specs.Parts.{Words, empty, one, two, reading, writing, Request, loadReq, storeReq, wbGuardReq, Tile, tileOf, idle, awaitingLoad, awaitingOwner, awaitingAcks, awaitingStore, Bench, benchOf, Call, load, store, evict, taking, toTile, fromTile, memoryStep, memoryAck, homeEviction}
+use Rattle.protocol.specs.Parts.{Words, empty, one, two, reading, writing, Request, loadReq, storeReq, wbGuardReq, Tile, tileOf, idle, awaitingLoad, awaitingOwner, awaitingAcks, awaitingStore, Bench, benchOf, Call, load, store, evict, taking, toTile, fromTile, memoryStep, memoryAck, homeEviction, Task, task, Write, storing}
 use Rattle.protocol.specs.Home.{Move, move, range, serve}
-use Rattle.protocol.specs.Bench.{freshTile, fresh, tileAt, front, noc1, popNoc1, kindOf, circle, firstOf, eligible, arbitrate, served, take, takeFrom, takingOn, step}
-use Rattle.protocol.specs.Demand3.{after, runs, Answer, answer, answered, tilesOf, one-if, isRequest, requestAtFront, takes, takesAnother, passesOver, passedOver}
+use Rattle.protocol.specs.Bench.{freshTile, fresh, tileAt, front, noc1, popNoc1, kindOf, circle, firstOf, eligible, arbitrate, served, takeFront, takeChosen, takingOn, step}
+use Rattle.protocol.specs.declared.Answer.{Answer}
+use Rattle.protocol.specs.declared.Answer.{Answer}
+use Rattle.protocol.specs.Answers.{answerOf, isAccepted}
+use Rattle.protocol.specs.Runs.{rules, after, runs}
+use Rattle.protocol.specs.Demand3.{tilesOf, one-if, isRequest, requestAtFront, takesBy, takesTile, takesAnother, passesOver, passedOver}
 use Rattle.protocol.proofs.Search.{split, First, first-range, pick, circle-first, first-passes, eligible-below}
 use Rattle.coherence.proofs.Sent.{lastTaken, asks, on-posted}
-use Rattle.coherence.proofs.Effect.{lastAfter, left}
+use Rattle.coherence.proofs.Effect.{lastBy, lastAfter, left}
 
 -- how many of n tiles are strictly between l and t in circle order
 unfoldable pub between : ℕ → ℕ → ℕ → ℕ
@@ -94,10 +98,10 @@ choice-nearer (benchOf h l k mem out back ts) t v e lb a =
 
 -- an accepted taking answers the tile chosen
 abbrev Chosen : Bench → Answer → Type 0
-Chosen b (answer n k v) = eqb n 0 ≡ true → choice b ≡ some v
+Chosen b r = isAccepted r ≡ true → choice b ≡ some (r .value)
 
-chosen : (b : Bench) → Chosen b (answered (takingOn b))
-unfolding takingOn takeFrom take served answered choice
+chosen : (b : Bench) → Chosen b (answerOf (takingOn b))
+unfolding takingOn takeChosen takeFront served answerOf isAccepted choice
 chosen (benchOf (idle x) l k mem out back ts) = go (arbitrate l k ts) refl
   where
     b : Bench
@@ -106,40 +110,40 @@ chosen (benchOf (idle x) l k mem out back ts) = go (arbitrate l k ts) refl
     popped : ℕ → List Tile
     popped u = set ts u (popNoc1 (tileAt ts u))
 
-    serving : (u : ℕ) (m : Move) → arbitrate l k ts ≡ some u → Chosen b (answered (served u m k mem out back (popped u)))
-    serving u (move h ms) e = on-posted (λ r. Chosen b (answered r)) (kindOf ms) _ ms _ (λ z. absurd (false≢true z)) (λ d s z. e)
+    serving : (u : ℕ) (m : Move) → arbitrate l k ts ≡ some u → Chosen b (answerOf (served u m k mem out back (popped u)))
+    serving u (move h ms) e = on-posted (λ r. Chosen b (answerOf r)) (kindOf ms) _ ms _ (λ z. absurd (false≢true z)) (λ d s z. e)
 
-    taking-of : (u : ℕ) (m : Option Request) → arbitrate l k ts ≡ some u → Chosen b (answered (take u m x k mem out back (popped u)))
+    taking-of : (u : ℕ) (m : Option Request) → arbitrate l k ts ≡ some u → Chosen b (answerOf (takeFront u m x k mem out back (popped u)))
     taking-of u none e = λ z. absurd (false≢true z)
     taking-of u (some wbGuardReq) e = λ z. e
-    taking-of u (some (loadReq w)) e = serving u (serve (length (popped u)) u reading x) e
-    taking-of u (some (storeReq w)) e = serving u (serve (length (popped u)) u writing x) e
+    taking-of u (some (loadReq w)) e = serving u (serve (length (popped u)) (task u reading) x) e
+    taking-of u (some (storeReq w)) e = serving u (serve (length (popped u)) (task u (writing storing)) x) e
 
-    go : (o : Option ℕ) → arbitrate l k ts ≡ o → Chosen b (answered (takeFrom o x k mem out back ts))
+    go : (o : Option ℕ) → arbitrate l k ts ≡ o → Chosen b (answerOf (takeChosen o x k mem out back ts))
     go none e = λ z. absurd (false≢true z)
     go (some u) e = taking-of u (front (noc1 (tileAt ts u))) e
-chosen (benchOf (awaitingLoad r a x) l k mem out back ts) = λ z. absurd (false≢true z)
+chosen (benchOf (awaitingLoad r x) l k mem out back ts) = λ z. absurd (false≢true z)
 chosen (benchOf (awaitingOwner d ws o c) l k mem out back ts) = λ z. absurd (false≢true z)
 chosen (benchOf (awaitingAcks d ws m owed c) l k mem out back ts) = λ z. absurd (false≢true z)
 chosen (benchOf (awaitingStore x) l k mem out back ts) = λ z. absurd (false≢true z)
 
 -- A call takes nobody, or the tile chosen.
 data Turn (c : Call) (b : Bench) : Type 0 where
-  nobody : lastTaken (after c b) ≡ lastTaken b → ((t : ℕ) → takesAnother t c (answered (step c b)) ≡ false) → Turn c b
-  somebody : (v : ℕ) → choice b ≡ some v → lastTaken (after c b) ≡ v → ((t : ℕ) → takes t c (answered (step c b)) ≡ eqb v t) → ((t : ℕ) → takesAnother t c (answered (step c b)) ≡ not (eqb v t)) → Turn c b
+  nobody : lastTaken (after c b) ≡ lastTaken b → ((t : ℕ) → takesAnother t c (answerOf (step c b)) ≡ false) → Turn c b
+  somebody : (v : ℕ) → choice b ≡ some v → lastTaken (after c b) ≡ v → ((t : ℕ) → takesTile t c (answerOf (step c b)) ≡ eqb v t) → ((t : ℕ) → takesAnother t c (answerOf (step c b)) ≡ not (eqb v t)) → Turn c b
 
 turn : (c : Call) (b : Bench) → Turn c b
-unfolding lastAfter takes takesAnother step
+unfolding lastAfter takesTile takesAnother takesBy isAccepted lastBy step
 turn (load u w) b = nobody (left (load u w) b .last) (λ t. refl)
 turn (store u w v) b = nobody (left (store u w v) b .last) (λ t. refl)
 turn (evict u) b = nobody (left (evict u) b .last) (λ t. refl)
-turn taking b = go (answered (takingOn b)) refl (chosen b) (left taking b .last)
+turn taking b = go (answerOf (takingOn b)) refl (chosen b) (left taking b .last)
   where
-    go : (r : Answer) → answered (takingOn b) ≡ r → Chosen b r → lastTaken (after taking b) ≡ lastAfter taking r (lastTaken b) → Turn taking b
-    go (answer n k v) e ch la = by (eqb n 0) refl
+    go : (r : Answer) → answerOf (takingOn b) ≡ r → Chosen b r → lastTaken (after taking b) ≡ lastAfter taking r (lastTaken b) → Turn taking b
+    go r e ch la = by (eqb (r .refusal) 0) refl
       where
-        by : (x : Bool) → eqb n 0 ≡ x → Turn taking b
-        by true z = somebody v (ch z) (la ∙ rw z) (λ t. rw (e, z)) (λ t. rw (e, z))
+        by : (x : Bool) → eqb (r .refusal) 0 ≡ x → Turn taking b
+        by true z = somebody (r .value) (ch z) (la ∙ rw z) (λ t. rw (e, z)) (λ t. rw (e, z))
         by false z = nobody (la ∙ rw z) (λ t. rw (e, z))
 turn (toTile u) b = nobody (left (toTile u) b .last) (λ t. refl)
 turn (fromTile u) b = nobody (left (fromTile u) b .last) (λ t. refl)
@@ -159,29 +163,29 @@ last-below c b lb = rw (count-kept c b) (go (turn c b))
     go (somebody v ch e f g) = rw e (choice-below b v ch)
 
 -- While a request is at the front of tile t's NoC1, each taking of another tile brings the last taken nearer to t.
-passes-over : (t : ℕ) (c : Call) (b : Bench) → lastTaken b < length (tilesOf b) → asks (tileAt (tilesOf b) t) ≡ true → takes t c (answered (step c b)) ≡ false → one-if (takesAnother t c (answered (step c b))) + between (length (tilesOf b)) (lastTaken (after c b)) t ≤ between (length (tilesOf b)) (lastTaken b) t
+passes-over : (t : ℕ) (c : Call) (b : Bench) → lastTaken b < length (tilesOf b) → asks (tileAt (tilesOf b) t) ≡ true → takesTile t c (answerOf (step c b)) ≡ false → one-if (takesAnother t c (answerOf (step c b))) + between (length (tilesOf b)) (lastTaken (after c b)) t ≤ between (length (tilesOf b)) (lastTaken b) t
 unfolding one-if
 passes-over t c b lb a z = go (turn c b)
   where
-    go : Turn c b → one-if (takesAnother t c (answered (step c b))) + between (length (tilesOf b)) (lastTaken (after c b)) t ≤ between (length (tilesOf b)) (lastTaken b) t
+    go : Turn c b → one-if (takesAnother t c (answerOf (step c b))) + between (length (tilesOf b)) (lastTaken (after c b)) t ≤ between (length (tilesOf b)) (lastTaken b) t
     go (nobody e n) = rw (e, n t) (omega arith)
     go (somebody v ch e f g) =
         let other : eqb v t ≡ false = sym (f t) ∙ z in
         rw (e, g t, other) (omega (arith, choice-nearer b t v ch lb a (eqb-false v t other)))
 
-near : (t : ℕ) (ds : List Call) (b : Bench) → lastTaken b < length (tilesOf b) → asks (tileAt (tilesOf b) t) ≡ true → passedOver t ds b ≤ between (length (tilesOf b)) (lastTaken b) t
+near : (t : ℕ) (ds : List Call) (b : Bench) → lastTaken b < length (tilesOf b) → asks (tileAt (tilesOf b) t) ≡ true → passedOver rules t ds b ≤ between (length (tilesOf b)) (lastTaken b) t
 unfolding passedOver passesOver requestAtFront asks
 near t [] b lb a = omega arith
-near t (c ∷ cs) b lb a = go (takes t c (answered (step c b))) refl (λ z. near t cs (after c b) (last-below c b lb) (left c b .asking t z a))
+near t (c ∷ cs) b lb a = go (takesTile t c (answerOf (step c b))) refl (λ z. near t cs (after c b) (last-below c b lb) (left c b .asking t z a))
   where
-    go : (x : Bool) → takes t c (answered (step c b)) ≡ x → (takes t c (answered (step c b)) ≡ false → passedOver t cs (after c b) ≤ between (length (tilesOf (after c b))) (lastTaken (after c b)) t) → cond x 0 (one-if (passesOver t c b) + passedOver t cs (after c b)) ≤ between (length (tilesOf b)) (lastTaken b) t
+    go : (x : Bool) → takesTile t c (answerOf (step c b)) ≡ x → (takesTile t c (answerOf (step c b)) ≡ false → passedOver rules t cs (after c b) ≤ between (length (tilesOf (after c b))) (lastTaken (after c b)) t) → cond x 0 (one-if (passesOver rules t c b) + passedOver rules t cs (after c b)) ≤ between (length (tilesOf b)) (lastTaken b) t
     go true z ih = omega arith
     go false z ih =
-        let h : passedOver t cs (after c b) ≤ between (length (tilesOf b)) (lastTaken (after c b)) t = rw (count-kept c b) at (ih z) in
+        let h : passedOver rules t cs (after c b) ≤ between (length (tilesOf b)) (lastTaken (after c b)) t = rw (count-kept c b) at (ih z) in
         rw a (omega (arith, passes-over t c b lb a z))
 
 -- Passed over at most n - 1 times, on every bench of n tiles whose last taken is one of them.
-pub fair-on : (ds : List Call) (t : ℕ) (b : Bench) → lastTaken b < length (tilesOf b) → passedOver t ds b ≤ length (tilesOf b) - 1
+pub fair-on : (ds : List Call) (t : ℕ) (b : Bench) → lastTaken b < length (tilesOf b) → passedOver rules t ds b ≤ length (tilesOf b) - 1
 unfolding passedOver passesOver requestAtFront asks one-if
 fair-on [] t b lb = omega arith
 fair-on (c ∷ cs) t b lb = go (asks (tileAt (tilesOf b) t)) refl (fair-on cs t (after c b) (last-below c b lb))
@@ -190,19 +194,19 @@ fair-on (c ∷ cs) t b lb = go (asks (tileAt (tilesOf b) t)) refl (fair-on cs t 
     untaken true m n h = omega arith
     untaken false m n h = omega arith
 
-    go : (x : Bool) → asks (tileAt (tilesOf b) t) ≡ x → passedOver t cs (after c b) ≤ length (tilesOf (after c b)) - 1 → passedOver t (c ∷ cs) b ≤ length (tilesOf b) - 1
+    go : (x : Bool) → asks (tileAt (tilesOf b) t) ≡ x → passedOver rules t cs (after c b) ≤ length (tilesOf (after c b)) - 1 → passedOver rules t (c ∷ cs) b ≤ length (tilesOf b) - 1
     go true e ih = omega (arith, near t (c ∷ cs) b lb e, between-below (length (tilesOf b)) (lastTaken b) t lb (asks-below (tilesOf b) t e))
     go false e ih =
-        let h : passedOver t cs (after c b) ≤ length (tilesOf b) - 1 = rw (count-kept c b) at ih in
-        rw e (untaken (takes t c (answered (step c b))) (passedOver t cs (after c b)) (length (tilesOf b) - 1) h)
+        let h : passedOver rules t cs (after c b) ≤ length (tilesOf b) - 1 = rw (count-kept c b) at ih in
+        rw e (untaken (takesTile t c (answerOf (step c b))) (passedOver rules t cs (after c b)) (length (tilesOf b) - 1) h)
 
 -- From a bench that a list of calls leaves.
-pub runs-count : (cs : List Call) (b : Bench) → length (tilesOf (runs cs b)) ≡ length (tilesOf b)
+pub runs-count : (cs : List Call) (b : Bench) → length (tilesOf (runs rules cs b)) ≡ length (tilesOf b)
 unfolding runs
 runs-count [] b = refl
 runs-count (c ∷ cs) b = runs-count cs (after c b) ∙ count-kept c b
 
-pub runs-last-below : (cs : List Call) (b : Bench) → lastTaken b < length (tilesOf b) → lastTaken (runs cs b) < length (tilesOf (runs cs b))
+pub runs-last-below : (cs : List Call) (b : Bench) → lastTaken b < length (tilesOf b) → lastTaken (runs rules cs b) < length (tilesOf (runs rules cs b))
 unfolding runs
 runs-last-below [] b lb = lb
 runs-last-below (c ∷ cs) b lb = runs-last-below cs (after c b) (last-below c b lb)
@@ -215,7 +219,7 @@ pub fresh-last-below : (n : ℕ) (mem : Words) → 1 ≤ n → lastTaken (fresh 
 unfolding fresh lastTaken tilesOf
 fresh-last-below n mem h = rw (length-replicate n freshTile) (omega arith)
 
-pub fair : (n : ℕ) (mem : Words) → 1 ≤ n → (cs ds : List Call) (t : ℕ) → passedOver t ds (runs cs (fresh n mem)) ≤ n - 1
+pub fair : (n : ℕ) (mem : Words) → 1 ≤ n → (cs ds : List Call) (t : ℕ) → passedOver rules t ds (runs rules cs (fresh n mem)) ≤ n - 1
 fair n mem h cs ds t =
     rw (runs-count cs (fresh n mem) ∙ fresh-count n mem) at
-    (fair-on ds t (runs cs (fresh n mem)) (runs-last-below cs (fresh n mem) (fresh-last-below n mem h)))
+    (fair-on ds t (runs rules cs (fresh n mem)) (runs-last-below cs (fresh n mem) (fresh-last-below n mem h)))

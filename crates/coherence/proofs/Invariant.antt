@@ -9,10 +9,11 @@ use mathlib.Core.List.{List}
 use mathlib.Core.Option.{Option, some, none}
 use lib.ListN.{length}
 use Rattle.masks.specs.Mask.{has}
-use Rattle.protocol.specs.Parts.{Words, Queue, empty, one, two, Access, reading, writing, shared, exclusive, modified, Cache, invalid, valid, Waiting, nothing, forLoad, forStore, Request, loadReq, storeReq, wbGuardReq, Forward, loadFwd, storeFwd, invFwd, dataAck, Reply, wbReq, loadFwdAckS, loadFwdAckI, storeFwdAck, invFwdAck, ToMemory, loadMem, storeMem, FromMemory, loadMemAck, storeMemAck, Tile, tileOf, uncached, sharedBy, ownedBy, Line, absent, present, Cause, request, eviction, Clearing, clearForStore, clearForEviction, Home, idle, awaitingLoad, awaitingOwner, awaitingAcks, awaitingStore, Bench, benchOf, Result, refused, accepted}
-use Rattle.protocol.specs.Home.{wordsAfter}
+use Rattle.protocol.specs.Parts.{Words, Queue, empty, one, two, Access, reading, writing, shared, exclusive, modified, Cache, invalid, valid, Waiting, nothing, forLoad, forStore, Request, loadReq, storeReq, wbGuardReq, Forward, loadFwd, storeFwd, invFwd, dataAck, Reply, wbReq, loadFwdAckS, loadFwdAckI, storeFwdAck, invFwdAck, ToMemory, loadMem, storeMem, FromMemory, loadMemAck, storeMemAck, Tile, tileOf, uncached, sharedBy, ownedBy, Line, absent, present, Cause, request, eviction, Clearing, clearFor, clearForEviction, Home, idle, awaitingLoad, awaitingOwner, awaitingAcks, awaitingStore, Bench, benchOf, Result, refused, accepted, Task, task, Write, storing}
+use Rattle.protocol.specs.Home.{ackWords}
 use Rattle.protocol.specs.Bench.{tileAt}
-use Rattle.protocol.specs.Demand3.{answer, isMisfit}
+use Rattle.protocol.specs.Demand3.{isMisfit}
+use Rattle.coherence.proofs.Said.{answer}
 
 -- ---- a tile
 
@@ -45,7 +46,7 @@ pub data Wants : Cache → Waiting → Option Access → Option Request → Opti
   loadQueued : {w u : ℕ} → Wants invalid (forLoad w) none (some (loadReq u)) none
   storeQueued : {c : Cache} {w v u : ℕ} → Weak c → Wants c (forStore w v) none (some (storeReq u)) none
   loadCurrent : {w : ℕ} → Wants invalid (forLoad w) (some reading) none none
-  storeCurrent : {c : Cache} {w v : ℕ} → Weak c → Wants c (forStore w v) (some writing) none none
+  storeCurrent : {c : Cache} {w v : ℕ} → Weak c → Wants c (forStore w v) (some (writing storing)) none none
   sharedGranted : {w : ℕ} {miss : Bool} {ws : Words} → Wants invalid (forLoad w) none none (some (dataAck shared miss ws))
   exclusiveGranted : {w : ℕ} {miss : Bool} {ws : Words} → Wants invalid (forLoad w) none none (some (dataAck exclusive miss ws))
   modifiedGranted : {c : Cache} {w v : ℕ} {miss : Bool} {ws : Words} → Weak c → Wants c (forStore w v) none none (some (dataAck modified miss ws))
@@ -77,7 +78,7 @@ pub data Replies : Forward → Reply → Type 0 where
 
 pub data Answers (ws hs : Words) : Forward → Reply → Type 0 where
   answers-load : hs ≡ ws → Answers ws hs loadFwd loadFwdAckI
-  answers-store : {x : Option Words} → wordsAfter x hs ≡ ws → Answers ws hs storeFwd (storeFwdAck x)
+  answers-store : {x : Option Words} → ackWords x hs ≡ ws → Answers ws hs storeFwd (storeFwdAck x)
 
 -- What goes together. Indices: relation, what the home acts for, what it has asked, mark; state, DATA_ACK on NoC2, guard on NoC1,
 -- WB_REQ on NoC3, forward or invalidation on NoC2, ack on NoC3.
@@ -88,7 +89,7 @@ pub data Table (ws : Words) : Relation → Option Access → Option Forward → 
   sharer-replied : Table ws sharer none (some invFwd) false invalid none none none none (some invFwdAck)
   owner-plain : {hs : Words} {cur : Option Access} {ask : Option Forward} {c : Cache} {d : Option Forward} → Askable (owner hs) cur ask → Owns ws hs c d → Table ws (owner hs) cur ask false c d none none ask none
   owner-replied : {hs : Words} {f : Forward} {a : Reply} → Answers ws hs f a → Table ws (owner hs) none (some f) false invalid none none none none (some a)
-  owner-shared : {hs : Words} {c : Cache} {x : Option Words} → Shares ws c → wordsAfter x hs ≡ ws → Table ws (owner hs) none (some loadFwd) false c none none none none (some (loadFwdAckS x))
+  owner-shared : {hs : Words} {c : Cache} {x : Option Words} → Shares ws c → ackWords x hs ≡ ws → Table ws (owner hs) none (some loadFwd) false c none none none none (some (loadFwdAckS x))
   -- the write-back is under way
   owner-out : {hs : Words} {ask : Option Forward} → Askable (owner hs) none ask → Table ws (owner hs) none ask false invalid none (some wbGuardReq) (some (wbReq ws)) ask none
   owner-out-replied : {hs : Words} {f : Forward} {a : Reply} → Replies f a → Table ws (owner hs) none (some f) false invalid none (some wbGuardReq) (some (wbReq ws)) none (some a)
@@ -106,17 +107,17 @@ pub data TileOk (ws : Words) : Waiting → Relation → Option Access → Option
 
 -- what is asked of the owner
 pub data AsksFor : Cause → Forward → Type 0 where
-  asks-load : {r : ℕ} → AsksFor (request r reading) loadFwd
-  asks-store : {r : ℕ} → AsksFor (request r writing) storeFwd
+  asks-load : {r : ℕ} → AsksFor (request (task r reading)) loadFwd
+  asks-store : {r : ℕ} {b : Write} → AsksFor (request (task r (writing b))) storeFwd
   asks-eviction : AsksFor eviction storeFwd
 
 -- tile u is not the requester
 pub data Apart : Cause → ℕ → Type 0 where
-  apart-request : {r u : ℕ} {a : Access} → (r ≡ u → ⊥) → Apart (request r a) u
+  apart-request : {r u : ℕ} {a : Access} → (r ≡ u → ⊥) → Apart (request (task r a)) u
   apart-eviction : {u : ℕ} → Apart eviction u
 
 pub data ApartFrom : Clearing → ℕ → Type 0 where
-  apart-store : {r u : ℕ} → (r ≡ u → ⊥) → ApartFrom (clearForStore r) u
+  apart-store : {r u : ℕ} {b : Write} → (r ≡ u → ⊥) → ApartFrom (clearFor (task r b)) u
   apart-clearing : {u : ℕ} → ApartFrom clearForEviction u
 
 -- a storer is in the mask, or a stranger
@@ -133,13 +134,13 @@ pub data Sees : Home → ℕ → Relation → Option Access → Option Forward �
   sees-outsider : {t m : ℕ} {d : Bool} {ws : Words} → has m t ≡ false → Sees (idle (present d ws (sharedBy m))) t stranger none none
   sees-owner : {t : ℕ} {d : Bool} {ws : Words} → Sees (idle (present d ws (ownedBy t))) t (owner ws) none none
   sees-unowning : {t o : ℕ} {d : Bool} {ws : Words} → (o ≡ t → ⊥) → Sees (idle (present d ws (ownedBy o))) t stranger none none
-  loads : {t : ℕ} {a : Access} {l : Line} → Sees (awaitingLoad t a l) t stranger (some a) none
-  loads-not : {t r : ℕ} {a : Access} {l : Line} → (r ≡ t → ⊥) → Sees (awaitingLoad r a l) t stranger none none
+  loads : {t : ℕ} {a : Access} {l : Line} → Sees (awaitingLoad (task t a) l) t stranger (some a) none
+  loads-not : {t r : ℕ} {a : Access} {l : Line} → (r ≡ t → ⊥) → Sees (awaitingLoad (task r a) l) t stranger none none
   asked-owner : {t : ℕ} {d : Bool} {ws : Words} {c : Cause} {f : Forward} → AsksFor c f → Sees (awaitingOwner d ws t c) t (owner ws) none (some f)
-  requester : {t o : ℕ} {d : Bool} {ws : Words} {a : Access} → (o ≡ t → ⊥) → Sees (awaitingOwner d ws o (request t a)) t stranger (some a) none
+  requester : {t o : ℕ} {d : Bool} {ws : Words} {a : Access} → (o ≡ t → ⊥) → Sees (awaitingOwner d ws o (request (task t a))) t stranger (some a) none
   bystander : {t o : ℕ} {d : Bool} {ws : Words} {c : Cause} → (o ≡ t → ⊥) → Apart c t → Sees (awaitingOwner d ws o c) t stranger none none
   owing : {t m owed : ℕ} {d : Bool} {ws : Words} {c : Clearing} → has owed t ≡ true → Sees (awaitingAcks d ws m owed c) t sharer none (some invFwd)
-  storer : {t m owed : ℕ} {d : Bool} {ws : Words} {rel : Relation} → has owed t ≡ false → InMask m t rel → Sees (awaitingAcks d ws m owed (clearForStore t)) t rel (some writing) none
+  storer : {t m owed : ℕ} {b : Write} {d : Bool} {ws : Words} {rel : Relation} → has owed t ≡ false → InMask m t rel → Sees (awaitingAcks d ws m owed (clearFor (task t b))) t rel (some (writing b)) none
   cleared-out : {t m owed : ℕ} {d : Bool} {ws : Words} {c : Clearing} → has owed t ≡ false → ApartFrom c t → Sees (awaitingAcks d ws m owed c) t stranger none none
   sees-leaving : {t : ℕ} {l : Line} → Sees (awaitingStore l) t stranger none none
 
@@ -159,11 +160,11 @@ pub data LineOk (n : ℕ) (mem ws : Words) : Line → Type 0 where
 
 -- the requester is not the owner, nor owed
 pub data CauseOk (n : ℕ) : ℕ → Cause → Type 0 where
-  request-ok : {o r : ℕ} {a : Access} → r < n → (o ≡ r → ⊥) → CauseOk n o (request r a)
+  request-ok : {o r : ℕ} {a : Access} → r < n → (o ≡ r → ⊥) → CauseOk n o (request (task r a))
   eviction-ok : {o : ℕ} → CauseOk n o eviction
 
 pub data ClearingOk (n : ℕ) : ℕ → Clearing → Type 0 where
-  store-ok : {owed r : ℕ} → r < n → has owed r ≡ false → ClearingOk n owed (clearForStore r)
+  store-ok : {owed r : ℕ} {b : Write} → r < n → has owed r ≡ false → ClearingOk n owed (clearFor (task r b))
   clearing-ok : {owed : ℕ} → ClearingOk n owed clearForEviction
 
 -- the owed tiles are in the mask
@@ -172,8 +173,8 @@ Inside owed m = (u : ℕ) → has owed u ≡ true → has m u ≡ true
 
 pub data HomeOk (n : ℕ) (mem ws : Words) : Home → Queue ToMemory → Queue FromMemory → Type 0 where
   idle-ok : {l : Line} → LineOk n mem ws l → HomeOk n mem ws (idle l) empty empty
-  load-out : {r : ℕ} {a : Access} → mem ≡ ws → r < n → HomeOk n mem ws (awaitingLoad r a absent) (one loadMem) empty
-  load-back : {r : ℕ} {a : Access} → mem ≡ ws → r < n → HomeOk n mem ws (awaitingLoad r a absent) empty (one (loadMemAck ws))
+  load-out : {r : ℕ} {a : Access} → mem ≡ ws → r < n → HomeOk n mem ws (awaitingLoad (task r a) absent) (one loadMem) empty
+  load-back : {r : ℕ} {a : Access} → mem ≡ ws → r < n → HomeOk n mem ws (awaitingLoad (task r a) absent) empty (one (loadMemAck ws))
   owner-ok : {d : Bool} {hs : Words} {o : ℕ} {c : Cause} → Clean hs mem d → o < n → CauseOk n o c → HomeOk n mem ws (awaitingOwner d hs o c) empty empty
   acks-ok : {d : Bool} {m owed : ℕ} {c : Clearing} → Clean ws mem d → owed < 2 ^ n → (owed ≡ 0 → ⊥) → Inside owed m → ClearingOk n owed c → HomeOk n mem ws (awaitingAcks d ws m owed c) empty empty
   store-out : HomeOk n mem ws (awaitingStore (present true ws uncached)) (one (storeMem ws)) empty

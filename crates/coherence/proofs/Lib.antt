@@ -4,6 +4,7 @@ pub mod Sent
 pub mod Effect
 pub mod Waiting
 pub mod Written
+pub mod Said
 pub mod Fair
 pub mod Falls
 pub mod Bounded

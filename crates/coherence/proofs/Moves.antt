@@ -10,11 +10,11 @@ use lib.ListN.{length, set, length-set}
 use lib.Seq.{getD-set-same, getD-set-other}
 use Rattle.masks.specs.Mask.{has, add}
 use Rattle.masks.proofs.MaskLaws.{has-add, has-add-other, add-lt}
-use Rattle.protocol.specs.Parts.{Words, Queue, empty, Access, reading, writing, Waiting, Forward, invFwd, ToMemory, FromMemory, Message, onNoc2, Tile, sharedBy, ownedBy, Line, absent, present, Cause, request, eviction, Clearing, clearForStore, Home, idle, awaitingOwner, awaitingAcks, awaitingStore, Bench, benchOf, Result}
-use Rattle.protocol.specs.Home.{Move, move, range, among, members, grantShared, grantOwner, ownRight, askedFor, askOwner, invalidateTo, invalidate, leave}
-use Rattle.protocol.specs.Bench.{freshTile, tileAt, push, sendOne, sendTo, send, sent, posted, kindOf}
+use Rattle.protocol.specs.Parts.{Words, Queue, empty, Access, reading, writing, Waiting, Forward, invFwd, ToMemory, FromMemory, Message, onNoc2, Tile, sharedBy, ownedBy, Line, absent, present, Cause, request, eviction, Clearing, clearFor, Home, idle, awaitingOwner, awaitingAcks, awaitingStore, Bench, benchOf, Result, Task, task, Write, storing}
+use Rattle.protocol.specs.Home.{Move, move, range, among, members, grantShared, grantMessage, grantedLine, grant, askedFor, askOwner, invalidateTo, invalidate, leave}
+use Rattle.protocol.specs.Bench.{freshTile, tileAt, push, sendOne, sendTo, send, outcome, posted, kindOf}
 use Rattle.protocol.proofs.Tests.{clash, by-test, at-or-not}
-use Rattle.coherence.proofs.Invariant.{Relation, stranger, sharer, owner, Askable, ask-load, ask-store, ask-inv, AsksFor, asks-load, asks-store, asks-eviction, Apart, ApartFrom, Sees, sees-absent, sees-sharer, sees-outsider, sees-owner, sees-unowning, asked-owner, requester, bystander, owing, storer, cleared-out, sees-leaving, InMask, Clean, clean, absent-ok, shared-ok, owned-ok, CauseOk, ClearingOk, Inside, idle-ok, owner-ok, acks-ok, store-out, Knowledge, At, at, All, Inv, inv, Plain, plain-0, plain-3, Fine, fine}
+use Rattle.coherence.proofs.Invariant.{Relation, stranger, sharer, owner, TileOk, Askable, ask-load, ask-store, ask-inv, AsksFor, asks-load, asks-store, asks-eviction, Apart, ApartFrom, Sees, sees-absent, sees-sharer, sees-outsider, sees-owner, sees-unowning, asked-owner, requester, bystander, owing, storer, cleared-out, sees-leaving, InMask, Clean, clean, absent-ok, shared-ok, owned-ok, CauseOk, ClearingOk, Inside, idle-ok, owner-ok, acks-ok, store-out, Knowledge, At, at, All, Inv, inv, Plain, plain-0, plain-3, Fine, fine}
 use Rattle.coherence.proofs.ViewSteps.{GrantFrom, Placed, placed, grant-owner, ShareFrom, grant-shared, ask-tile}
 
 -- ---- one tile replaced, all others as before
@@ -52,12 +52,12 @@ post (move h ms) v l k mem out back ts = posted (kindOf ms) v ms (benchOf h l k 
 
 send-then : {ws : Words} {q : ℕ → Waiting} {n : ℕ} {P : Tile → Type 0} {m : Forward} (h : Home) (l k : ℕ) (mem : Words) (out : Queue ToMemory) (back : Queue FromMemory) (kd v : ℕ) (ts : List Tile) (all rest : List Message) (r : ℕ)
     → Placed m (tileAt ts r) P
-    → ((y : Tile) → P y → Fine ws q n (sent kd v all (send rest (some (benchOf h l k mem out back (set ts r y))))))
-    → Fine ws q n (sent kd v all (send (onNoc2 r m ∷ rest) (some (benchOf h l k mem out back ts))))
+    → ((y : Tile) → P y → Fine ws q n (outcome kd v all (send rest (some (benchOf h l k mem out back (set ts r y))))))
+    → Fine ws q n (outcome kd v all (send (onNoc2 r m ∷ rest) (some (benchOf h l k mem out back ts))))
 unfolding send sendTo sendOne
 send-then {ws} {q} {n} h l k mem out back kd v ts all rest r (placed {y} e p) f =
     subst
-    (λ (o : Option Tile). Fine ws q n (sent kd v all (send rest (Option·map (λ x. benchOf h l k mem out back (set ts r x)) o))))
+    (λ (o : Option Tile). Fine ws q n (outcome kd v all (send rest (Option·map (λ x. benchOf h l k mem out back (set ts r x)) o))))
     (sym e)
     (f y p)
 
@@ -65,7 +65,7 @@ pub send-one : {ws : Words} {q : ℕ → Waiting} {n : ℕ} {P : Tile → Type 0
     → Placed m (tileAt ts r) P
     → ((y : Tile) → P y → Inv ws q n (benchOf h l k mem out back (set ts r y)))
     → Fine ws q n (posted 3 v (onNoc2 r m ∷ []) (benchOf h l k mem out back ts))
-unfolding posted send sent
+unfolding posted send outcome
 send-one {m} h l k mem out back v ts r s f = send-then h l k mem out back 3 v ts (onNoc2 r m ∷ []) [] r s (λ y p. fine (plain-3, f y p))
 
 -- ---- what the tiles are before each move
@@ -80,13 +80,13 @@ pub data Sharee : ℕ → Relation → Option Access → Option Forward → Type
 
 -- the tiles beside an owner that is to be asked
 pub data Beside : Cause → ℕ → Relation → Option Access → Option Forward → Type 0 where
-  asker : {t : ℕ} {a : Access} → Beside (request t a) t stranger (some a) none
+  asker : {t : ℕ} {a : Access} → Beside (request (task t a)) t stranger (some a) none
   beside : {t : ℕ} {c : Cause} → Apart c t → Beside c t stranger none none
 
 -- the tiles before the invalidations of `owed`, of the mask m
 pub data ToClear (m owed : ℕ) : Clearing → ℕ → Relation → Option Access → Option Forward → Type 0 where
   to-owe : {t : ℕ} {c : Clearing} → has owed t ≡ true → ToClear m owed c t sharer none none
-  to-store : {t : ℕ} {rel : Relation} → has owed t ≡ false → InMask m t rel → ToClear m owed (clearForStore t) t rel (some writing) none
+  to-store : {t : ℕ} {b : Write} {rel : Relation} → has owed t ≡ false → InMask m t rel → ToClear m owed (clearFor (task t b)) t rel (some (writing b)) none
   to-pass : {t : ℕ} {c : Clearing} → has owed t ≡ false → ApartFrom c t → ToClear m owed c t stranger none none
 
 -- ---- the descriptions after them
@@ -113,8 +113,8 @@ beside-asked ne rel cur ask (beside a) = bystander ne a
 -- what is asked of the owner, and that an owner can be asked it
 asks : (c : Cause) → AsksFor c (askedFor c)
 unfolding askedFor
-asks (request t reading) = asks-load
-asks (request t writing) = asks-store
+asks (request (task t reading)) = asks-load
+asks (request (task t (writing b))) = asks-store
 asks eviction = asks-eviction
 
 askable : {hs : Words} {c : Cause} {f : Forward} → AsksFor c f → Askable (owner hs) none (some f)
@@ -132,13 +132,18 @@ plain-kind (m ∷ ms) = plain-3
 
 -- where the home's words are the last written, ws, they are what is granted
 module _ (ws : Words) (q : ℕ → Waiting) (n v l k : ℕ) (mem : Words) (ts : List Tile) (len : length ts ≡ n) where
-  pub grantOwner-fine : {a : Access} (d : Bool) (miss : Bool) (r : ℕ) → Clean ws mem d → r < n → At ws q k (Grantee a) r (tileAt ts r) → ((u : ℕ) → u < n → (r ≡ u → ⊥) → At ws q k Alone u (tileAt ts u))
-      → Fine ws q n (post (grantOwner d ws (ownRight a) miss r) v l k mem empty empty ts)
-  unfolding grantOwner kindOf
-  grantOwner-fine d miss r cl lt (at (grantee g) m o) others =
-      send-one (idle (present d ws (ownedBy r))) l k mem empty empty v ts r (grant-owner g o)
+  owned-fine : {f : Forward} {mark : Bool} (d : Bool) (r : ℕ) → Clean ws mem d → r < n → has k r ≡ mark → Placed f (tileAt ts r) (TileOk ws (q r) (owner ws) none none mark) → ((u : ℕ) → u < n → (r ≡ u → ⊥) → At ws q k Alone u (tileAt ts u))
+      → Fine ws q n (posted 3 v (onNoc2 r f ∷ []) (benchOf (idle (present d ws (ownedBy r))) l k mem empty empty ts))
+  owned-fine d r cl lt m s others =
+      send-one (idle (present d ws (ownedBy r))) l k mem empty empty v ts r s
       (λ y p. inv (length-set ts r y ∙ len) (idle-ok (owned-ok cl lt))
       (each-tile ts r y (At ws q k (Sees (idle (present d ws (ownedBy r))))) len (λ u lu ne. carry refl (alone-unowning ne) (others u lu ne)) (at sees-owner m p)))
+
+  pub grant-fine : {a : Access} (d : Bool) (miss : Bool) (r : ℕ) → Clean ws mem d → r < n → At ws q k (Grantee a) r (tileAt ts r) → ((u : ℕ) → u < n → (r ≡ u → ⊥) → At ws q k Alone u (tileAt ts u))
+      → Fine ws q n (post (grant d ws miss (task r a)) v l k mem empty empty ts)
+  unfolding grant kindOf grantedLine
+  grant-fine {a = reading} d miss r cl lt (at (grantee g) m o) others = owned-fine d r cl lt m (grant-owner miss g o) others
+  grant-fine {a = writing storing} d miss r cl lt (at (grantee g) m o) others = owned-fine d r cl lt m (grant-owner miss g o) others
 
   pub grantShared-fine : {e : Bool} {us : Words} (d : Bool) (m r : ℕ) → Clean ws mem d → m < 2 ^ n → r < n → At ws q k Sharee r (tileAt ts r) → ((u : ℕ) → u < n → (r ≡ u → ⊥) → At ws q k (Sees (idle (present e us (sharedBy m)))) u (tileAt ts u))
       → Fine ws q n (post (grantShared d ws m r) v l k mem empty empty ts)
@@ -157,7 +162,7 @@ module _ (ws : Words) (q : ℕ → Waiting) (n v l k : ℕ) (mem : Words) (ts : 
       (each-tile ts o y (At ws q k (Sees (awaitingOwner d hs o c))) len (λ u lu ne. carry refl (beside-asked ne) (others u lu ne)) (at (asked-owner (asks c)) m p)))
 
   pub leave-fine : (d : Bool) → Clean ws mem d → All ws q n k Alone ts → Fine ws q n (post (leave d ws) v l k mem empty empty ts)
-  unfolding leave kindOf posted send sendTo sendOne push sent
+  unfolding leave kindOf posted send sendTo sendOne push outcome
   leave-fine true cl all = fine (plain-3, inv len store-out (λ u lu. carry refl alone-leaving (all u lu)))
   leave-fine false (clean e) all = fine (plain-0, inv len (idle-ok (absent-ok (sym e))) (λ u lu. carry refl alone-absent (all u lu)))
 
@@ -184,12 +189,12 @@ module _ (ws : Words) (q : ℕ → Waiting) (n v l k : ℕ) (mem : Words) (kd : 
 
   send-all : (j i : ℕ) (ts : List Tile) → length ts ≡ n → i + j ≡ n → ((u : ℕ) → u < n → Until i u (tileAt ts u))
       → ((us : List Tile) → length us ≡ n → All ws q n k (Sees (awaitingAcks d ws m owed c)) us → Inv ws q n (benchOf (awaitingAcks d ws m owed c) l k mem empty empty us))
-      → Fine ws q n (sent kd v all (send (map invalidateTo (among owed (range i j))) (some (benchOf (awaitingAcks d ws m owed c) l k mem empty empty ts))))
-  unfolding range among send sent invalidateTo
+      → Fine ws q n (outcome kd v all (send (map invalidateTo (among owed (range i j))) (some (benchOf (awaitingAcks d ws m owed c) l k mem empty empty ts))))
+  unfolding range among send outcome invalidateTo
   send-all zero i ts len e st end = fine (pk, end ts len (λ u lu. st u lu .0 (omega arith)))
   send-all (suc j) i ts len e st end =
       let next = send-all j (suc i) in
-      by-test (λ (us : List ℕ). Fine ws q n (sent kd v all (send (map invalidateTo us) (some (benchOf (awaitingAcks d ws m owed c) l k mem empty empty ts))))) (has owed i) _ _
+      by-test (λ (us : List ℕ). Fine ws q n (outcome kd v all (send (map invalidateTo us) (some (benchOf (awaitingAcks d ws m owed c) l k mem empty empty ts))))) (has owed i) _ _
       (λ h. send-then (awaitingAcks d ws m owed c) l k mem empty empty kd v ts all (map invalidateTo (among owed (range (suc i) j))) i
       (owed-sent {m = m} {d = d} {us = ws} h (st i (omega arith) .1 (omega arith)))
       (λ y z. next (set ts i y) (length-set ts i y ∙ len) (omega arith)

@@ -93,8 +93,4 @@ coherent {ws} {q} {n} (inv {h} {k} {ts} len hok all) =
     named (at s m o) e = named-by hok s (holder o e)
 
 pub order1 : Order1-statement
-order1 n one-up most mem eight cs =
-    record {
-      coherent = λ before later e. coherent (runs-inv n mem before);
-      last-word = λ before c later e. next-gives n mem eight before c;
-    }
+order1 n one-up most mem eight cs = record { coherent = coherent (runs-inv n mem cs); last-word = next-gives n mem eight cs }

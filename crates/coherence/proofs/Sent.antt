@@ -8,8 +8,8 @@ use mathlib.Core.Option.{Option, some, none, Option·map}
 use native.Mathlib.Omega.{arith}
 use lib.ListN.{length, set, length-set}
 use Rattle.protocol.specs.Parts.{Words, Queue, empty, one, two, Waiting, nothing, forLoad, forStore, Cache, Request, Forward, Reply, ToMemory, FromMemory, Message, onNoc1, onNoc2, onNoc3, toMemory, fromMemory, Tile, tileOf, Home, Bench, benchOf, Result, refused, accepted}
-use Rattle.protocol.specs.Bench.{freshTile, tileAt, push, front, noc1, onTile1, onTile2, onTile3, sendOne, sendTo, send, sent, posted}
-use Rattle.protocol.specs.Demand3.{isWaiting, tilesOf, isRequest}
+use Rattle.protocol.specs.Bench.{freshTile, tileAt, push, front, noc1, onTile1, onTile2, onTile3, sendOne, sendTo, send, outcome, posted}
+use Rattle.protocol.specs.Demand3.{waitingOf, tilesOf, isRequest}
 use Rattle.coherence.proofs.Weight.{queueWeight, requestWeight, forwardWeight, replyWeight, outWeight, backWeight, tileWeight, tilesWeight, measure}
 
 unfoldable pub lastTaken : Bench → ℕ
@@ -21,7 +21,7 @@ asks x = isRequest (front (noc1 x))
 
 -- a tile as it was, but for the ends of its queues
 pub record Alike (x′ x : Tile) : Type 0 where
-  pub waiting : isWaiting x′ ≡ isWaiting x
+  pub waiting : waitingOf x′ ≡ waitingOf x
   pub asking : asks x ≡ true → asks x′ ≡ true
 
 pub alike : (x : Tile) → Alike x x
@@ -29,13 +29,6 @@ alike x = record { waiting = refl; asking = λ e. e }
 
 pub alike-then : {x y z : Tile} → Alike y x → Alike z y → Alike z x
 alike-then f g = record { waiting = g .waiting ∙ f .waiting; asking = λ e. g .asking (f .asking e) }
-
--- waiting is read off the waiting access alone
-pub waiting-alone : (p : Waiting) (c c′ : Cache) (q1 r1 : Queue Request) (q2 r2 : Queue Forward) (q3 r3 : Queue Reply) → isWaiting (tileOf c′ p r1 r2 r3) ≡ isWaiting (tileOf c p q1 q2 q3)
-unfolding isWaiting
-waiting-alone nothing c c′ q1 r1 q2 r2 q3 r3 = refl
-waiting-alone (forLoad w) c c′ q1 r1 q2 r2 q3 r3 = refl
-waiting-alone (forStore w v) c c′ q1 r1 q2 r2 q3 r3 = refl
 
 -- tile u replaced: what relates the new tile to the old one relates every tile to what it was
 pub set-related : (R : Tile → Tile → Type 0) → ((x : Tile) → R x x) → (ts : List Tile) (u t : ℕ) (x : Tile) → R x (tileAt ts u) → R (tileAt (set ts u x) t) (tileAt ts t)
@@ -97,21 +90,21 @@ PutTo n w x none = Unit {0}
 PutTo n w x (some x′) = Put n w x x′
 
 put1 : (n : ℕ) (m : Request) (x : Tile) → PutTo n (requestWeight n m) x (onTile1 m x)
-unfolding onTile1 push tileWeight queueWeight asks front noc1 isRequest
-put1 n m (tileOf c p empty q2 q3) = record { still = record { waiting = waiting-alone p c c empty (one m) q2 q2 q3 q3; asking = λ e. absurd (false≢true e) }; weight = omega arith }
-put1 n m (tileOf c p (one a) q2 q3) = record { still = record { waiting = waiting-alone p c c (one a) (two a m) q2 q2 q3 q3; asking = λ e. e }; weight = omega arith }
+unfolding onTile1 push tileWeight queueWeight asks front noc1 isRequest waitingOf
+put1 n m (tileOf c p empty q2 q3) = record { still = record { waiting = refl; asking = λ e. absurd (false≢true e) }; weight = omega arith }
+put1 n m (tileOf c p (one a) q2 q3) = record { still = record { waiting = refl; asking = λ e. e }; weight = omega arith }
 put1 n m (tileOf c p (two a b) q2 q3) = tt
 
 put2 : (n : ℕ) (m : Forward) (x : Tile) → PutTo n (forwardWeight m) x (onTile2 m x)
-unfolding onTile2 push tileWeight queueWeight asks front noc1 isRequest
-put2 n m (tileOf c p q1 empty q3) = record { still = record { waiting = waiting-alone p c c q1 q1 empty (one m) q3 q3; asking = λ e. e }; weight = omega arith }
-put2 n m (tileOf c p q1 (one a) q3) = record { still = record { waiting = waiting-alone p c c q1 q1 (one a) (two a m) q3 q3; asking = λ e. e }; weight = omega arith }
+unfolding onTile2 push tileWeight queueWeight asks front noc1 isRequest waitingOf
+put2 n m (tileOf c p q1 empty q3) = record { still = record { waiting = refl; asking = λ e. e }; weight = omega arith }
+put2 n m (tileOf c p q1 (one a) q3) = record { still = record { waiting = refl; asking = λ e. e }; weight = omega arith }
 put2 n m (tileOf c p q1 (two a b) q3) = tt
 
 put3 : (n : ℕ) (m : Reply) (x : Tile) → PutTo n (replyWeight m) x (onTile3 m x)
-unfolding onTile3 push tileWeight queueWeight asks front noc1 isRequest
-put3 n m (tileOf c p q1 q2 empty) = record { still = record { waiting = waiting-alone p c c q1 q1 q2 q2 empty (one m); asking = λ e. e }; weight = omega arith }
-put3 n m (tileOf c p q1 q2 (one a)) = record { still = record { waiting = waiting-alone p c c q1 q1 q2 q2 (one a) (two a m); asking = λ e. e }; weight = omega arith }
+unfolding onTile3 push tileWeight queueWeight asks front noc1 isRequest waitingOf
+put3 n m (tileOf c p q1 q2 empty) = record { still = record { waiting = refl; asking = λ e. e }; weight = omega arith }
+put3 n m (tileOf c p q1 q2 (one a)) = record { still = record { waiting = refl; asking = λ e. e }; weight = omega arith }
 put3 n m (tileOf c p q1 q2 (two a b)) = tt
 
 -- tile u of a bench replaced by one alike
@@ -167,9 +160,9 @@ sent-all (m ∷ ms) b = go (sendOne m b) (sent-one m b) (λ c. sent-all ms c)
 
 -- what holds of a refusal, and of every bench that sending leaves, holds of what is posted
 pub on-posted : (P : Result Bench → Type 0) (k v : ℕ) (ms : List Message) (b : Bench) → P (refused 9) → ((c : Bench) → Sent ms b c → P (accepted k v c ms)) → P (posted k v ms b)
-unfolding posted sent
+unfolding posted outcome
 on-posted P k v ms b full room = go (send ms (some b)) (sent-all ms b)
   where
-    go : (o : Option Bench) → SentTo ms b o → P (sent k v ms o)
+    go : (o : Option Bench) → SentTo ms b o → P (outcome k v ms o)
     go none s = full
     go (some c) s = room c s

@@ -5,8 +5,9 @@ use mathlib.Core.Bool.{Bool, true, false}
 use native.Mathlib.Nat.{le-trans}
 use Rattle.protocol.specs.Parts.{Bench, Result}
 use Rattle.protocol.specs.Bench.{fresh}
-use Rattle.protocol.specs.Demand3.{runs, answered, isMisfit, canBeAccepted, history, waits, next, Demand3-statement}
-use Rattle.protocol.specs.Order1.{waitsFor}
+use Rattle.protocol.specs.Answers.{answerOf}
+use Rattle.protocol.specs.Runs.{rules, runs, canBeAccepted, history, waitsFor}
+use Rattle.protocol.specs.Demand3.{isMisfit, waits, nextDelivery, Demand3-statement}
 use Rattle.coherence.proofs.Invariant.{Inv, Holds, fine-refused, fine}
 use Rattle.protocol.proofs.Tests.{clash}
 use Rattle.coherence.proofs.Calls.{step-fine}
@@ -17,18 +18,18 @@ use Rattle.coherence.proofs.Bounded.{bounded-by}
 use Rattle.coherence.proofs.Waiting.{waiting-in-tile}
 use Rattle.coherence.proofs.Fair as fairness
 
-never-misfits : {P : ℕ → ℕ → Bench → Type 0} {r : Result Bench} → Holds P r → isMisfit (answered r) ≡ false
-unfolding answered isMisfit
+never-misfits : {P : ℕ → ℕ → Bench → Type 0} {r : Result Bench} → Holds P r → isMisfit (answerOf r) ≡ false
+unfolding answerOf isMisfit
 never-misfits (fine-refused e) = e
 never-misfits (fine p) = refl
 
 pub demand3 : Demand3-statement
 demand3 n one-up most mem eight cs =
     record {
-      progress = λ t w. (next-delivery b, accepted-next t w (canBeAccepted (next b) b) refl);
+      progress = λ t w. (next-delivery b, accepted-next t w (canBeAccepted rules (nextDelivery b) b) refl);
       bounded = λ ds e. le-trans (bounded-by ds b e) (measure-bound one-up i);
       quiet = λ f.
-          let s = settled i (f (next b) (next-delivery b)) in
+          let s = settled i (f (nextDelivery b) (next-delivery b)) in
           (λ t. waiting-in-tile n mem cs t ∙ s .1 t, s .0);
       fair = λ ds t. fairness.fair n mem one-up cs ds t;
       fits = λ c. never-misfits (step-fine c i);
@@ -36,11 +37,11 @@ demand3 n one-up most mem eight cs =
     }
   where
     b : Bench
-    b = runs cs (fresh n mem)
+    b = runs rules cs (fresh n mem)
 
-    i : Inv (wordsLast n mem cs) (waitsFor (history cs (fresh n mem))) n b
+    i : Inv (wordsLast n mem cs) (waitsFor (history rules cs (fresh n mem))) n b
     i = runs-inv n mem cs
 
-    accepted-next : (t : ℕ) → waits t (history cs (fresh n mem)) ≡ true → (x : Bool) → canBeAccepted (next b) b ≡ x → canBeAccepted (next b) b ≡ true
+    accepted-next : (t : ℕ) → waits t (history rules cs (fresh n mem)) ≡ true → (x : Bool) → canBeAccepted rules (nextDelivery b) b ≡ x → canBeAccepted rules (nextDelivery b) b ≡ true
     accepted-next t w true e = e
     accepted-next t w false e = clash w (waiting-in-tile n mem cs t ∙ settled i e .1 t)

@@ -6,11 +6,13 @@ use mathlib.Core.Bool.{Bool, cond, true, false, _||_}
 use mathlib.Core.List.{[], _∷_}
 use mathlib.Core.Option.{Option, some, none, Option·map}
 use lib.ListN.{getD, set}
-use Rattle.protocol.specs.Parts.{Words, Queue, empty, Access, Right, shared, exclusive, modified, Cache, invalid, valid, Waiting, nothing, forLoad, forStore, Request, loadReq, storeReq, Forward, Reply, onNoc1, onNoc3, Tile, tileOf, Result, refused, accepted}
-use Rattle.protocol.specs.Home.{wordsAfter}
+use Rattle.protocol.specs.Parts.{Words, Queue, empty, Access, State, shared, exclusive, modified, Cache, invalid, valid, Waiting, nothing, forLoad, forStore, Request, loadReq, storeReq, Forward, Reply, onNoc1, onNoc3, Tile, tileOf, Result, refused, accepted}
+use Rattle.protocol.specs.Home.{ackWords}
 use Rattle.protocol.specs.Tile.{loadAt, storeAt, evictAt, deliverTo, received, receive, fill}
 use Rattle.protocol.specs.Bench.{push, onTile1, onTile2, onTile3}
-use Rattle.protocol.specs.Demand3.{answer, isMisfit, hasKind}
+use Rattle.protocol.specs.Answers.{hasKind}
+use Rattle.protocol.specs.Demand3.{isMisfit}
+use Rattle.coherence.proofs.Said.{answer}
 use Rattle.protocol.proofs.Tests.{false-true}
 use Rattle.coherence.proofs.Written.{writes}
 use Rattle.coherence.proofs.Invariant.{Relation, sharer, owner, join, weak-I, weak-S, Shares, shares-I, shares-S, Wants, resting, loadQueued, storeQueued, loadCurrent, storeCurrent, sharedGranted, exclusiveGranted, modifiedGranted, Askable, not-asked, ask-load, ask-store, ask-inv, SharedData, no-data, shared-data, Owns, owns-I, owns-E, owns-M, sent-E, sent-M, replies-load, replies-store, answers-load, answers-store, Table, stranger-plain, stranger-in, sharer-plain, sharer-replied, owner-plain, owner-replied, owner-shared, owner-out, owner-out-replied, owner-in, owner-in-replied, TileOk, ok, Plain, plain-0, plain-3}
@@ -50,7 +52,7 @@ pub data Changes (ws : Words) : Relation → Words → Type 0 where
 -- ---- load
 
 -- a tile to which no data are on their way holds the words last written, if any
-held : {ws us : Words} {rel : Relation} {cur : Option Access} {ask : Option Forward} {mark : Bool} {z : Right} {g : Option Request} {w a : Option Reply} {f : Option Forward}
+held : {ws us : Words} {rel : Relation} {cur : Option Access} {ask : Option Forward} {mark : Bool} {z : State} {g : Option Request} {w a : Option Reply} {f : Option Forward}
     → Table ws rel cur ask mark (valid z us) none g w f a → us ≡ ws
 held (sharer-plain k shares-S s) = refl
 held (owner-plain k (owns-E e)) = refl
@@ -203,7 +205,7 @@ to-sharer t ask-inv k shared-data (sharedGranted {w}) = kept-silent (answered-lo
 -- to an owner: data, then a forward
 to-owner : {ws hs : Words} {cur : Option Access} {ask : Option Forward} {c : Cache} {p : Waiting} {r : Option Request} {d : Option Forward} (t : ℕ)
     → Askable (owner hs) cur ask → Owns ws hs c d → Wants c p cur r d → Delivered ws p t (owner hs) cur ask false (tileOf c p (join none r) (join d ask) empty)
-unfolding deliverTo received receive fill isMisfit onTile3 push wordsAfter
+unfolding deliverTo received receive fill isMisfit onTile3 push ackWords
 to-owner t not-asked (owns-I h) e = kept-refused refl
 to-owner t not-asked (owns-E h) e = kept-refused refl
 to-owner t not-asked owns-M e = kept-refused refl

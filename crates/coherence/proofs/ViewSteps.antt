@@ -3,8 +3,8 @@ use Prim.Native.Nat.{ℕ}
 use mathlib.Core.Path.{_≡_, refl, sym}
 use mathlib.Core.Bool.{Bool, true, false}
 use mathlib.Core.Option.{Option, some, none}
-use Rattle.protocol.specs.Parts.{Words, Access, reading, writing, shared, exclusive, modified, Cache, invalid, valid, Waiting, Request, loadReq, storeReq, wbGuardReq, Forward, loadFwd, storeFwd, invFwd, dataAck, Reply, wbReq, loadFwdAckS, loadFwdAckI, storeFwdAck, invFwdAck, Tile}
-use Rattle.protocol.specs.Home.{ownRight, wordsAfter}
+use Rattle.protocol.specs.Parts.{Words, Access, reading, writing, shared, exclusive, modified, Cache, invalid, valid, Waiting, Request, loadReq, storeReq, wbGuardReq, Forward, loadFwd, storeFwd, invFwd, dataAck, Reply, wbReq, loadFwdAckS, loadFwdAckI, storeFwdAck, invFwdAck, Tile, Task, task, Write, storing}
+use Rattle.protocol.specs.Home.{grantMessage, ackWords}
 use Rattle.protocol.specs.Bench.{push, front, rest, onTile2, eligible, noc1, popNoc1, noc3, popNoc3}
 use Rattle.protocol.proofs.Tests.{false-true}
 use Rattle.coherence.proofs.Invariant.{Relation, stranger, sharer, owner, Weak, weak-I, weak-S, shares-I, resting, loadQueued, storeQueued, loadCurrent, storeCurrent, sharedGranted, exclusiveGranted, modifiedGranted, Askable, not-asked, ask-load, ask-store, ask-inv, no-data, shared-data, owns-I, owns-E, owns-M, sent-E, sent-M, replies-load, replies-store, answers-load, answers-store, stranger-plain, stranger-in, sharer-plain, sharer-replied, owner-plain, owner-replied, owner-shared, owner-out, owner-out-replied, owner-in, owner-in-replied, TileOk, ok}
@@ -17,7 +17,7 @@ use Rattle.coherence.proofs.TileSteps.{on2}
 pub data Front1 (ws : Words) (p : Waiting) : Relation → Bool → Option Request → Tile → Type 0 where
   guard-front : {y : Tile} → TileOk ws p stranger none none false y → Front1 ws p stranger true (some wbGuardReq) y
   load-front : {rel : Relation} {w : ℕ} {y : Tile} → TileOk ws p rel (some reading) none false y → Front1 ws p rel false (some (loadReq w)) y
-  store-front : {rel : Relation} {w : ℕ} {y : Tile} → TileOk ws p rel (some writing) none false y → Front1 ws p rel false (some (storeReq w)) y
+  store-front : {rel : Relation} {w : ℕ} {y : Tile} → TileOk ws p rel (some (writing storing)) none false y → Front1 ws p rel false (some (storeReq w)) y
 
 pub front1 : {ws : Words} {p : Waiting} {rel : Relation} {mark : Bool} {x : Tile} → TileOk ws p rel none none mark x → eligible mark x ≡ true → Front1 ws p rel mark (front (noc1 x)) (popNoc1 x)
 unfolding eligible front noc1 popNoc1 rest
@@ -48,7 +48,7 @@ front1 (ok (owner-out not-asked) (storeQueued k)) e = false-true e
 -- a grant of E or M: to a stranger or the owner itself; to a sharer only for its store
 pub data GrantFrom : Relation → Access → Type 0 where
   from-stranger : {a : Access} → GrantFrom stranger a
-  from-sharer : GrantFrom sharer writing
+  from-sharer : {b : Write} → GrantFrom sharer (writing b)
   from-owner : {hs : Words} {a : Access} → GrantFrom (owner hs) a
 
 -- the tile with the message on its NoC2
@@ -66,15 +66,15 @@ weak-unowned : {c : Cache} → Weak c → isOwned c ≡ false
 weak-unowned weak-I = refl
 weak-unowned weak-S = refl
 
-pub grant-owner : {ws : Words} {p : Waiting} {rel : Relation} {a : Access} {mark miss : Bool} {x : Tile} → GrantFrom rel a → TileOk ws p rel (some a) none mark x → Placed (dataAck (ownRight a) miss ws) x (TileOk ws p (owner ws) none none mark)
-unfolding onTile2 push ownRight
-grant-owner from-stranger (ok stranger-plain loadCurrent) = placed refl (ok (owner-plain not-asked (sent-E refl)) exclusiveGranted)
-grant-owner from-stranger (ok stranger-plain (storeCurrent k)) = placed refl (ok (owner-plain not-asked (sent-M refl shares-I)) (modifiedGranted k))
-grant-owner from-sharer (ok (sharer-plain not-asked c s) (storeCurrent k)) = placed refl (ok (owner-plain not-asked (sent-M refl c)) (modifiedGranted k))
-grant-owner from-owner (ok (owner-plain not-asked o) loadCurrent) = placed refl (ok (owner-plain not-asked (sent-E refl)) exclusiveGranted)
-grant-owner from-owner (ok (owner-plain not-asked (owns-I h)) (storeCurrent k)) = placed refl (ok (owner-plain not-asked (sent-M refl shares-I)) (modifiedGranted k))
-grant-owner from-owner (ok (owner-plain not-asked (owns-E h)) (storeCurrent k)) = false-true (sym (weak-unowned k))
-grant-owner from-owner (ok (owner-plain not-asked owns-M) (storeCurrent k)) = false-true (sym (weak-unowned k))
+pub grant-owner : {ws : Words} {p : Waiting} {rel : Relation} {a : Access} {mark : Bool} {x : Tile} (miss : Bool) → GrantFrom rel a → TileOk ws p rel (some a) none mark x → Placed (grantMessage a miss ws) x (TileOk ws p (owner ws) none none mark)
+unfolding onTile2 push grantMessage
+grant-owner miss from-stranger (ok stranger-plain loadCurrent) = placed refl (ok (owner-plain not-asked (sent-E refl)) exclusiveGranted)
+grant-owner miss from-stranger (ok stranger-plain (storeCurrent k)) = placed refl (ok (owner-plain not-asked (sent-M refl shares-I)) (modifiedGranted k))
+grant-owner miss from-sharer (ok (sharer-plain not-asked c s) (storeCurrent k)) = placed refl (ok (owner-plain not-asked (sent-M refl c)) (modifiedGranted k))
+grant-owner miss from-owner (ok (owner-plain not-asked o) loadCurrent) = placed refl (ok (owner-plain not-asked (sent-E refl)) exclusiveGranted)
+grant-owner miss from-owner (ok (owner-plain not-asked (owns-I h)) (storeCurrent k)) = placed refl (ok (owner-plain not-asked (sent-M refl shares-I)) (modifiedGranted k))
+grant-owner miss from-owner (ok (owner-plain not-asked (owns-E h)) (storeCurrent k)) = false-true (sym (weak-unowned k))
+grant-owner miss from-owner (ok (owner-plain not-asked owns-M) (storeCurrent k)) = false-true (sym (weak-unowned k))
 
 -- an owner whose request the home serves has nothing under way, and is in I: the home's words are the last written
 pub asking-owner : {ws hs : Words} {p : Waiting} {a : Access} {mark : Bool} {x : Tile} → TileOk ws p (owner hs) (some a) none mark x → hs ≡ ws
@@ -108,13 +108,13 @@ pub data Front3 (ws : Words) (p : Waiting) : Relation → Option Access → Opti
   no-front : {rel : Relation} {cur : Option Access} {ask : Option Forward} {mark : Bool} {y : Tile} → Front3 ws p rel cur ask mark none y
   wb-idle : {hs : Words} {y : Tile} → TileOk ws p stranger none none true y → Front3 ws p (owner hs) none none false (some (wbReq ws)) y
   wb-asked : {hs : Words} {f : Forward} {y : Tile} → TileOk ws p (owner ws) none (some f) true y → Front3 ws p (owner hs) none (some f) false (some (wbReq ws)) y
-  ack-shared : {hs : Words} {x : Option Words} {y : Tile} → wordsAfter x hs ≡ ws → TileOk ws p sharer none none false y → Front3 ws p (owner hs) none (some loadFwd) false (some (loadFwdAckS x)) y
+  ack-shared : {hs : Words} {x : Option Words} {y : Tile} → ackWords x hs ≡ ws → TileOk ws p sharer none none false y → Front3 ws p (owner hs) none (some loadFwd) false (some (loadFwdAckS x)) y
   ack-invalid : {hs : Words} {mark : Bool} {y : Tile} → hs ≡ ws → TileOk ws p stranger none none mark y → Front3 ws p (owner hs) none (some loadFwd) mark (some loadFwdAckI) y
-  ack-store : {hs : Words} {mark : Bool} {x : Option Words} {y : Tile} → wordsAfter x hs ≡ ws → TileOk ws p stranger none none mark y → Front3 ws p (owner hs) none (some storeFwd) mark (some (storeFwdAck x)) y
+  ack-store : {hs : Words} {mark : Bool} {x : Option Words} {y : Tile} → ackWords x hs ≡ ws → TileOk ws p stranger none none mark y → Front3 ws p (owner hs) none (some storeFwd) mark (some (storeFwdAck x)) y
   ack-inv : {mark : Bool} {y : Tile} → TileOk ws p stranger none none mark y → Front3 ws p sharer none (some invFwd) mark (some invFwdAck) y
 
 pub front3 : {ws : Words} {p : Waiting} {rel : Relation} {cur : Option Access} {ask : Option Forward} {mark : Bool} {x : Tile} → TileOk ws p rel cur ask mark x → Front3 ws p rel cur ask mark (front (noc3 x)) (popNoc3 x)
-unfolding front noc3 popNoc3 rest wordsAfter
+unfolding front noc3 popNoc3 rest ackWords
 front3 (ok stranger-plain e) = no-front
 front3 (ok stranger-in e) = no-front
 front3 (ok (sharer-plain k c s) e) = no-front

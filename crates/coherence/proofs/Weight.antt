@@ -2,7 +2,7 @@
 use Prim.Native.Nat.{ℕ, _+_, _*_}
 use mathlib.Core.List.{List, [], _∷_}
 use lib.ListN.{length}
-use Rattle.protocol.specs.Parts.{Queue, empty, one, two, Request, loadReq, storeReq, wbGuardReq, Forward, loadFwd, storeFwd, invFwd, dataAck, Reply, ToMemory, FromMemory, Tile, tileOf, Cause, request, eviction, Clearing, clearForStore, clearForEviction, Home, idle, awaitingLoad, awaitingOwner, awaitingAcks, awaitingStore, Bench, benchOf}
+use Rattle.protocol.specs.Parts.{Queue, empty, one, two, Request, loadReq, storeReq, wbGuardReq, Forward, loadFwd, storeFwd, invFwd, dataAck, Reply, ToMemory, FromMemory, Tile, tileOf, Cause, request, eviction, Clearing, clearFor, clearForEviction, Home, idle, awaitingLoad, awaitingOwner, awaitingAcks, awaitingStore, Bench, benchOf, Task, task, Write, storing}
 
 -- a queue, by the weight of a message
 unfoldable pub queueWeight : {A : Type 0} → (A → ℕ) → Queue A → ℕ
@@ -43,16 +43,16 @@ tilesWeight n (x ∷ xs) = tileWeight n x + tilesWeight n xs
 
 -- what the home has still to send: a grant, or STORE_MEM
 unfoldable pub causeWeight : Cause → ℕ
-causeWeight (request t a) = 1
+causeWeight (request (task t a)) = 1
 causeWeight eviction = 2
 
 unfoldable pub clearingWeight : Clearing → ℕ
-clearingWeight (clearForStore t) = 1
+clearingWeight (clearFor (task t b)) = 1
 clearingWeight clearForEviction = 2
 
 unfoldable pub homeWeight : Home → ℕ
 homeWeight (idle x) = 0
-homeWeight (awaitingLoad t a x) = 1
+homeWeight (awaitingLoad t x) = 1
 homeWeight (awaitingOwner d ws o c) = causeWeight c
 homeWeight (awaitingAcks d ws m owed c) = clearingWeight c
 homeWeight (awaitingStore x) = 0

@@ -1,155 +1,147 @@
-// All of it for programs in other languages, but for a job's calls (job_exports). Numbers, and lent words as pointer and length, go in; each
-// function returns the refusal number and tells the whole answer. include/duzhmarqi.h says the same for C. Which call, which place and what
-// is told are promises of the crates just below.
+// All of it for programs in other languages, but for a job's calls (crate job_exports). Numbers, and lent words as pointer and length, go in;
+// each function returns the refusal number and reports the whole answer. include/duzhmarqi.h says the same for C. The definitions are those of
+// the crates just below: c_arguments for what is given, c_answers for what is reported.
 ghost use mathlib.Core.Path.{_≡_};
 ghost use lib.ListN.{length, drop};
 ghost use Rattle.protocol.specs.Parts.{load, store, evict, taking, toTile, fromTile, memoryStep, memoryAck, homeEviction};
-ghost use Rattle.calls.specs.Calls.{wellFormed, stepOn, answerOf, wordsAfter, wordsStarted};
-ghost use Rattle.tile_args.specs.Args.{atTile};
-ghost use Rattle.home_args.specs.Args.{atHome};
-ghost use Rattle.given.specs.Given.{startFrom};
-ghost use Rattle.telling.specs.Told.{told};
-ghost use Rattle.answer_telling.specs.Answered.{answerWords};
-ghost use Rattle.returning.specs.Returned.{bit};
-ghost use Rattle.sent.specs.Places.{placesOf};
-ghost use Rattle.messages.specs.Rows.{messageOf};
-ghost use Rattle.sent_flits.specs.Given.{sentWritten, sentBuffer};
-ghost use Rattle.flit_reading.specs.Reading.{readOf};
-ghost use Rattle.read_telling.specs.Answered.{readWords};
-ghost use Rattle.given_message.specs.Given.{writtenFrom, bufferFrom};
-ghost use Rattle.job_check.specs.Check.{checkJob};
-ghost use Rattle.job_telling.specs.Answered.{checkedWords};
-ghost use Rattle.exports.specs.Answered.{writtenWords};
-use answer_telling::tell_answer;
-use flit_writing::Written;
-use home_args::HomeArgs;
-use job_telling::tell_checked;
-use tile_args::TileArgs;
+ghost use Rattle.protocol.specs.Answers.{answerOf};
+ghost use Rattle.calls.specs.Calls.{wellFormed, answerTo, afterCall, wordsStarted};
+ghost use Rattle.calls.specs.Numbered.{atTile, atHome};
+ghost use Rattle.messages.specs.Queues.{sentQueues};
+ghost use Rattle.messages.specs.Rows.{sentMessage};
+ghost use Rattle.flits.specs.Reading.{readOf};
+ghost use Rattle.job_format.specs.Check.{checkJob};
+ghost use Rattle.c_arguments.specs.Arguments.{startFrom, writtenFrom, bufferFrom, sentWritten, sentBuffer};
+ghost use Rattle.c_answers.specs.Reports.{reported};
+ghost use Rattle.c_answers.specs.Words.{truth, answerWords, readWords, writtenWords, checkedWords};
+use c_answers::report_answer;
+use calls::HomeCall;
+use calls::TileCall;
 
-// ---- the calls on a bench: each tells refusal, kind, value, `sent`, `tiles` (docs/LAYOUT.md)
+// ---- the calls on a bench: each reports refusal, kind, value, `sent`, `tiles` (docs/LAYOUT.md)
 
 // A fresh bench of so many tiles, with the eight memory words.
 #[no_mangle]
-pub extern "C" fn duzh_start(w: &mut [u64], tiles: u64, memory: &[u64], out: &mut [u64]) -> u64
-    ensures refusal { λ r. ⌜ r ≡ answerOf (startFrom (now (w .entry)) tiles (now (memory .entry))) .refusal ⌝ }
-    ensures words { λ _. ⌜ now (w .exit) ≡ wordsStarted (now (w .entry)) tiles (startFrom (now (w .entry)) tiles (now (memory .entry))) ⌝ }
-    ensures told { λ _. ⌜ now (out .exit) ≡ told (now (out .entry)) (answerWords (answerOf (startFrom (now (w .entry)) tiles (now (memory .entry))))) ⌝ }
+pub extern "C" fn duzh_start(words: &mut [u64], tiles: u64, memory: &[u64], out: &mut [u64]) -> u64
+    ensures refusal { λ r. ⌜ r ≡ answerOf (startFrom (now (words .entry)) tiles (now (memory .entry))) .refusal ⌝ }
+    ensures after { λ _. ⌜ now (words .exit) ≡ wordsStarted (now (words .entry)) tiles (startFrom (now (words .entry)) tiles (now (memory .entry))) ⌝ }
+    ensures report { λ _. ⌜ now (out .exit) ≡ reported (now (out .entry)) (answerWords (answerOf (startFrom (now (words .entry)) tiles (now (memory .entry))))) ⌝ }
 {
-    let a = given::start_from(w, tiles, memory);
-    tell_answer(out, a)
+    let answer = c_arguments::start_from(words, tiles, memory);
+    report_answer(out, answer)
 }
 
 // Do the words begin with a bench? 1 if so, else 0.
 #[no_mangle]
-pub extern "C" fn duzh_well_formed(w: &[u64]) -> u64
-    ensures { λ r. ⌜ r ≡ bit (wellFormed (now (w .entry))) ⌝ }
+pub extern "C" fn duzh_well_formed(words: &[u64]) -> u64
+    ensures { λ r. ⌜ r ≡ truth (wellFormed (now (words .entry))) ⌝ }
 {
-    returning::bit(bench_words::well_formed(w))
+    c_answers::truth(well_formed::well_formed(words))
 }
 
-fn run_tile(w: &mut [u64], a: TileArgs, out: &mut [u64]) -> u64
-    ensures refusal { λ r. ⌜ r ≡ answerOf (stepOn (now (w .entry)) (atTile a)) .refusal ⌝ }
-    ensures words { λ _. ⌜ now (w .exit) ≡ wordsAfter (now (w .entry)) (stepOn (now (w .entry)) (atTile a)) ⌝ }
-    ensures told { λ _. ⌜ now (out .exit) ≡ told (now (out .entry)) (answerWords (answerOf (stepOn (now (w .entry)) (atTile a)))) ⌝ }
+fn run_tile(words: &mut [u64], call: TileCall, out: &mut [u64]) -> u64
+    ensures refusal { λ r. ⌜ r ≡ answerTo (atTile call) (now (words .entry)) .refusal ⌝ }
+    ensures after { λ _. ⌜ now (words .exit) ≡ afterCall (atTile call) (now (words .entry)) ⌝ }
+    ensures report { λ _. ⌜ now (out .exit) ≡ reported (now (out .entry)) (answerWords (answerTo (atTile call) (now (words .entry)))) ⌝ }
 {
-    let answer = tile_calls::at_tile(w, a.tag, a.tile, a.word, a.value);
-    tell_answer(out, answer)
+    let answer = bench::at_tile(words, call.tag, call.tile, call.word, call.value);
+    report_answer(out, answer)
 }
 
 #[no_mangle]
-pub extern "C" fn duzh_load(w: &mut [u64], tile: u64, word: u64, out: &mut [u64]) -> u64
-    ensures refusal { λ r. ⌜ r ≡ answerOf (stepOn (now (w .entry)) (load tile word)) .refusal ⌝ }
-    ensures words { λ _. ⌜ now (w .exit) ≡ wordsAfter (now (w .entry)) (stepOn (now (w .entry)) (load tile word)) ⌝ }
-    ensures told { λ _. ⌜ now (out .exit) ≡ told (now (out .entry)) (answerWords (answerOf (stepOn (now (w .entry)) (load tile word)))) ⌝ }
+pub extern "C" fn duzh_load(words: &mut [u64], tile: u64, word: u64, out: &mut [u64]) -> u64
+    ensures refusal { λ r. ⌜ r ≡ answerTo (load tile word) (now (words .entry)) .refusal ⌝ }
+    ensures after { λ _. ⌜ now (words .exit) ≡ afterCall (load tile word) (now (words .entry)) ⌝ }
+    ensures report { λ _. ⌜ now (out .exit) ≡ reported (now (out .entry)) (answerWords (answerTo (load tile word) (now (words .entry)))) ⌝ }
 {
-    run_tile(w, tile_args::load(tile, word), out)
+    run_tile(words, calls::load(tile, word), out)
 }
 
 #[no_mangle]
 pub extern "C" fn duzh_store(
-    w: &mut [u64],
+    words: &mut [u64],
     tile: u64,
     word: u64,
     value: u64,
     out: &mut [u64],
 ) -> u64
-    ensures refusal { λ r. ⌜ r ≡ answerOf (stepOn (now (w .entry)) (store tile word value)) .refusal ⌝ }
-    ensures words { λ _. ⌜ now (w .exit) ≡ wordsAfter (now (w .entry)) (stepOn (now (w .entry)) (store tile word value)) ⌝ }
-    ensures told { λ _. ⌜ now (out .exit) ≡ told (now (out .entry)) (answerWords (answerOf (stepOn (now (w .entry)) (store tile word value)))) ⌝ }
+    ensures refusal { λ r. ⌜ r ≡ answerTo (store tile word value) (now (words .entry)) .refusal ⌝ }
+    ensures after { λ _. ⌜ now (words .exit) ≡ afterCall (store tile word value) (now (words .entry)) ⌝ }
+    ensures report { λ _. ⌜ now (out .exit) ≡ reported (now (out .entry)) (answerWords (answerTo (store tile word value) (now (words .entry)))) ⌝ }
 {
-    run_tile(w, tile_args::store(tile, word, value), out)
+    run_tile(words, calls::store(tile, word, value), out)
 }
 
 #[no_mangle]
-pub extern "C" fn duzh_evict(w: &mut [u64], tile: u64, out: &mut [u64]) -> u64
-    ensures refusal { λ r. ⌜ r ≡ answerOf (stepOn (now (w .entry)) (evict tile)) .refusal ⌝ }
-    ensures words { λ _. ⌜ now (w .exit) ≡ wordsAfter (now (w .entry)) (stepOn (now (w .entry)) (evict tile)) ⌝ }
-    ensures told { λ _. ⌜ now (out .exit) ≡ told (now (out .entry)) (answerWords (answerOf (stepOn (now (w .entry)) (evict tile)))) ⌝ }
+pub extern "C" fn duzh_evict(words: &mut [u64], tile: u64, out: &mut [u64]) -> u64
+    ensures refusal { λ r. ⌜ r ≡ answerTo (evict tile) (now (words .entry)) .refusal ⌝ }
+    ensures after { λ _. ⌜ now (words .exit) ≡ afterCall (evict tile) (now (words .entry)) ⌝ }
+    ensures report { λ _. ⌜ now (out .exit) ≡ reported (now (out .entry)) (answerWords (answerTo (evict tile) (now (words .entry)))) ⌝ }
 {
-    run_tile(w, tile_args::evict(tile), out)
+    run_tile(words, calls::evict(tile), out)
 }
 
 #[no_mangle]
-pub extern "C" fn duzh_to_tile(w: &mut [u64], tile: u64, out: &mut [u64]) -> u64
-    ensures refusal { λ r. ⌜ r ≡ answerOf (stepOn (now (w .entry)) (toTile tile)) .refusal ⌝ }
-    ensures words { λ _. ⌜ now (w .exit) ≡ wordsAfter (now (w .entry)) (stepOn (now (w .entry)) (toTile tile)) ⌝ }
-    ensures told { λ _. ⌜ now (out .exit) ≡ told (now (out .entry)) (answerWords (answerOf (stepOn (now (w .entry)) (toTile tile)))) ⌝ }
+pub extern "C" fn duzh_to_tile(words: &mut [u64], tile: u64, out: &mut [u64]) -> u64
+    ensures refusal { λ r. ⌜ r ≡ answerTo (toTile tile) (now (words .entry)) .refusal ⌝ }
+    ensures after { λ _. ⌜ now (words .exit) ≡ afterCall (toTile tile) (now (words .entry)) ⌝ }
+    ensures report { λ _. ⌜ now (out .exit) ≡ reported (now (out .entry)) (answerWords (answerTo (toTile tile) (now (words .entry)))) ⌝ }
 {
-    run_tile(w, tile_args::to_tile(tile), out)
+    run_tile(words, calls::to_tile(tile), out)
 }
 
-fn run_home(w: &mut [u64], a: HomeArgs, out: &mut [u64]) -> u64
-    ensures refusal { λ r. ⌜ r ≡ answerOf (stepOn (now (w .entry)) (atHome a)) .refusal ⌝ }
-    ensures words { λ _. ⌜ now (w .exit) ≡ wordsAfter (now (w .entry)) (stepOn (now (w .entry)) (atHome a)) ⌝ }
-    ensures told { λ _. ⌜ now (out .exit) ≡ told (now (out .entry)) (answerWords (answerOf (stepOn (now (w .entry)) (atHome a)))) ⌝ }
+fn run_home(words: &mut [u64], call: HomeCall, out: &mut [u64]) -> u64
+    ensures refusal { λ r. ⌜ r ≡ answerTo (atHome call) (now (words .entry)) .refusal ⌝ }
+    ensures after { λ _. ⌜ now (words .exit) ≡ afterCall (atHome call) (now (words .entry)) ⌝ }
+    ensures report { λ _. ⌜ now (out .exit) ≡ reported (now (out .entry)) (answerWords (answerTo (atHome call) (now (words .entry)))) ⌝ }
 {
-    let answer = home_calls::at_home(w, a.tag, a.tile);
-    tell_answer(out, answer)
-}
-
-#[no_mangle]
-pub extern "C" fn duzh_taking(w: &mut [u64], out: &mut [u64]) -> u64
-    ensures refusal { λ r. ⌜ r ≡ answerOf (stepOn (now (w .entry)) taking) .refusal ⌝ }
-    ensures words { λ _. ⌜ now (w .exit) ≡ wordsAfter (now (w .entry)) (stepOn (now (w .entry)) taking) ⌝ }
-    ensures told { λ _. ⌜ now (out .exit) ≡ told (now (out .entry)) (answerWords (answerOf (stepOn (now (w .entry)) taking))) ⌝ }
-{
-    run_home(w, home_args::taking(), out)
+    let answer = bench::at_home(words, call.tag, call.tile);
+    report_answer(out, answer)
 }
 
 #[no_mangle]
-pub extern "C" fn duzh_from_tile(w: &mut [u64], tile: u64, out: &mut [u64]) -> u64
-    ensures refusal { λ r. ⌜ r ≡ answerOf (stepOn (now (w .entry)) (fromTile tile)) .refusal ⌝ }
-    ensures words { λ _. ⌜ now (w .exit) ≡ wordsAfter (now (w .entry)) (stepOn (now (w .entry)) (fromTile tile)) ⌝ }
-    ensures told { λ _. ⌜ now (out .exit) ≡ told (now (out .entry)) (answerWords (answerOf (stepOn (now (w .entry)) (fromTile tile)))) ⌝ }
+pub extern "C" fn duzh_taking(words: &mut [u64], out: &mut [u64]) -> u64
+    ensures refusal { λ r. ⌜ r ≡ answerTo taking (now (words .entry)) .refusal ⌝ }
+    ensures after { λ _. ⌜ now (words .exit) ≡ afterCall taking (now (words .entry)) ⌝ }
+    ensures report { λ _. ⌜ now (out .exit) ≡ reported (now (out .entry)) (answerWords (answerTo taking (now (words .entry)))) ⌝ }
 {
-    run_home(w, home_args::from_tile(tile), out)
+    run_home(words, calls::taking(), out)
 }
 
 #[no_mangle]
-pub extern "C" fn duzh_memory_step(w: &mut [u64], out: &mut [u64]) -> u64
-    ensures refusal { λ r. ⌜ r ≡ answerOf (stepOn (now (w .entry)) memoryStep) .refusal ⌝ }
-    ensures words { λ _. ⌜ now (w .exit) ≡ wordsAfter (now (w .entry)) (stepOn (now (w .entry)) memoryStep) ⌝ }
-    ensures told { λ _. ⌜ now (out .exit) ≡ told (now (out .entry)) (answerWords (answerOf (stepOn (now (w .entry)) memoryStep))) ⌝ }
+pub extern "C" fn duzh_from_tile(words: &mut [u64], tile: u64, out: &mut [u64]) -> u64
+    ensures refusal { λ r. ⌜ r ≡ answerTo (fromTile tile) (now (words .entry)) .refusal ⌝ }
+    ensures after { λ _. ⌜ now (words .exit) ≡ afterCall (fromTile tile) (now (words .entry)) ⌝ }
+    ensures report { λ _. ⌜ now (out .exit) ≡ reported (now (out .entry)) (answerWords (answerTo (fromTile tile) (now (words .entry)))) ⌝ }
 {
-    run_home(w, home_args::memory_step(), out)
+    run_home(words, calls::from_tile(tile), out)
 }
 
 #[no_mangle]
-pub extern "C" fn duzh_memory_ack(w: &mut [u64], out: &mut [u64]) -> u64
-    ensures refusal { λ r. ⌜ r ≡ answerOf (stepOn (now (w .entry)) memoryAck) .refusal ⌝ }
-    ensures words { λ _. ⌜ now (w .exit) ≡ wordsAfter (now (w .entry)) (stepOn (now (w .entry)) memoryAck) ⌝ }
-    ensures told { λ _. ⌜ now (out .exit) ≡ told (now (out .entry)) (answerWords (answerOf (stepOn (now (w .entry)) memoryAck))) ⌝ }
+pub extern "C" fn duzh_memory_step(words: &mut [u64], out: &mut [u64]) -> u64
+    ensures refusal { λ r. ⌜ r ≡ answerTo memoryStep (now (words .entry)) .refusal ⌝ }
+    ensures after { λ _. ⌜ now (words .exit) ≡ afterCall memoryStep (now (words .entry)) ⌝ }
+    ensures report { λ _. ⌜ now (out .exit) ≡ reported (now (out .entry)) (answerWords (answerTo memoryStep (now (words .entry)))) ⌝ }
 {
-    run_home(w, home_args::memory_ack(), out)
+    run_home(words, calls::memory_step(), out)
 }
 
 #[no_mangle]
-pub extern "C" fn duzh_home_eviction(w: &mut [u64], out: &mut [u64]) -> u64
-    ensures refusal { λ r. ⌜ r ≡ answerOf (stepOn (now (w .entry)) homeEviction) .refusal ⌝ }
-    ensures words { λ _. ⌜ now (w .exit) ≡ wordsAfter (now (w .entry)) (stepOn (now (w .entry)) homeEviction) ⌝ }
-    ensures told { λ _. ⌜ now (out .exit) ≡ told (now (out .entry)) (answerWords (answerOf (stepOn (now (w .entry)) homeEviction))) ⌝ }
+pub extern "C" fn duzh_memory_ack(words: &mut [u64], out: &mut [u64]) -> u64
+    ensures refusal { λ r. ⌜ r ≡ answerTo memoryAck (now (words .entry)) .refusal ⌝ }
+    ensures after { λ _. ⌜ now (words .exit) ≡ afterCall memoryAck (now (words .entry)) ⌝ }
+    ensures report { λ _. ⌜ now (out .exit) ≡ reported (now (out .entry)) (answerWords (answerTo memoryAck (now (words .entry)))) ⌝ }
 {
-    run_home(w, home_args::home_eviction(), out)
+    run_home(words, calls::memory_ack(), out)
+}
+
+#[no_mangle]
+pub extern "C" fn duzh_home_eviction(words: &mut [u64], out: &mut [u64]) -> u64
+    ensures refusal { λ r. ⌜ r ≡ answerTo homeEviction (now (words .entry)) .refusal ⌝ }
+    ensures after { λ _. ⌜ now (words .exit) ≡ afterCall homeEviction (now (words .entry)) ⌝ }
+    ensures report { λ _. ⌜ now (out .exit) ≡ reported (now (out .entry)) (answerWords (answerTo homeEviction (now (words .entry)))) ⌝ }
+{
+    run_home(words, calls::home_eviction(), out)
 }
 
 // ---- the messages that a call sent, out of the words that it left: `sent` and `tiles` are the last two words of its answer
@@ -157,54 +149,45 @@ pub extern "C" fn duzh_home_eviction(w: &mut [u64], out: &mut [u64]) -> u64
 // How many messages there are.
 #[no_mangle]
 pub extern "C" fn duzh_message_count(sent: u64, tiles: u64) -> u64
-    ensures { λ r. ⌜ r ≡ length (placesOf sent tiles) ⌝ }
+    ensures { λ r. ⌜ r ≡ length (sentQueues sent tiles) ⌝ }
 {
-    returning::message_count(sent, tiles)
+    messages::count(sent, tiles)
 }
 
-// The refusal number, which is returned too, and how many flits were written.
-fn tell_written(out: &mut [u64], a: Written) -> u64
-    ensures refusal { λ r. ⌜ r ≡ a .refusal ⌝ }
-    ensures told { λ _. ⌜ now (out .exit) ≡ told (now (out .entry)) (writtenWords a) ⌝ }
-{
-    telling::tell_two(out, a.refusal, a.flits);
-    a.refusal
-}
-
-// The flits of the i-th of them, from 0, written at a place of the buffer, of the line with this address. Tells the refusal number and
-// how many flits were written; where there is no such message it is refused 11.
+// The flits of the message of this index, from 0, written at a place of the buffer, of the line with this address. Reports the refusal number
+// and how many flits were written; where there is no such message it is refused 11.
 #[no_mangle]
 pub extern "C" fn duzh_message_flits(
-    w: &[u64],
+    words: &[u64],
     sent: u64,
     tiles: u64,
-    i: u64,
+    index: u64,
     line: u64,
     buffer: &mut [u64],
     at: usize,
     out: &mut [u64],
 ) -> u64
-    ensures refusal { λ r. ⌜ r ≡ sentWritten line (messageOf (now (w .entry)) sent tiles i) (length (now (buffer .entry))) at .refusal ⌝ }
-    ensures buffer { λ _. ⌜ now (buffer .exit) ≡ sentBuffer line (messageOf (now (w .entry)) sent tiles i) (now (buffer .entry)) at ⌝ }
-    ensures told { λ _. ⌜ now (out .exit) ≡ told (now (out .entry)) (writtenWords (sentWritten line (messageOf (now (w .entry)) sent tiles i) (length (now (buffer .entry))) at)) ⌝ }
+    ensures refusal { λ r. ⌜ r ≡ sentWritten line (sentMessage (now (words .entry)) sent tiles index) (length (now (buffer .entry))) at .refusal ⌝ }
+    ensures after { λ _. ⌜ now (buffer .exit) ≡ sentBuffer line (sentMessage (now (words .entry)) sent tiles index) (now (buffer .entry)) at ⌝ }
+    ensures report { λ _. ⌜ now (out .exit) ≡ reported (now (out .entry)) (writtenWords (sentWritten line (sentMessage (now (words .entry)) sent tiles index) (length (now (buffer .entry))) at)) ⌝ }
 {
-    let a = sent_flits::write_sent(w, sent, tiles, i, line, buffer, at);
-    tell_written(out, a)
+    let written = c_arguments::write_sent(words, sent, tiles, index, line, buffer, at);
+    c_answers::report_written(out, written)
 }
 
 // ---- flits and jobs that a caller brings
 
-// The front message from a place of the flits on. Tells refusal, flits used, where the data start (counted from the place), the fields.
+// The front message from a place of the flits on. Reports refusal, flits used, where the data start (counted from the place), the fields.
 #[no_mangle]
 pub extern "C" fn duzh_read(flits: &[u64], at: usize, out: &mut [u64]) -> u64
     ensures refusal { λ r. ⌜ r ≡ readOf (drop at (now (flits .entry))) .refusal ⌝ }
-    ensures told { λ _. ⌜ now (out .exit) ≡ told (now (out .entry)) (readWords (readOf (drop at (now (flits .entry))))) ⌝ }
+    ensures report { λ _. ⌜ now (out .exit) ≡ reported (now (out .entry)) (readWords (readOf (drop at (now (flits .entry))))) ⌝ }
 {
-    flits_telling::read_told(flits, at, out)
+    c_answers::read_and_report(flits, at, out)
 }
 
-// Writes a message with its data words at a place of the buffer. Tells the refusal number and how many flits were written; other than
-// 18 fields are refused 1.
+// Writes a message with its data words at a place of the buffer. Reports the refusal number and how many flits were written; other
+// than 18 fields are refused 1.
 #[no_mangle]
 pub extern "C" fn duzh_write(
     buffer: &mut [u64],
@@ -214,19 +197,19 @@ pub extern "C" fn duzh_write(
     out: &mut [u64],
 ) -> u64
     ensures refusal { λ r. ⌜ r ≡ writtenFrom (now (fields .entry)) (length (now (words .entry))) (length (now (buffer .entry))) at .refusal ⌝ }
-    ensures buffer { λ _. ⌜ now (buffer .exit) ≡ bufferFrom (now (fields .entry)) (now (words .entry)) (now (buffer .entry)) at ⌝ }
-    ensures told { λ _. ⌜ now (out .exit) ≡ told (now (out .entry)) (writtenWords (writtenFrom (now (fields .entry)) (length (now (words .entry))) (length (now (buffer .entry))) at)) ⌝ }
+    ensures after { λ _. ⌜ now (buffer .exit) ≡ bufferFrom (now (fields .entry)) (now (words .entry)) (now (buffer .entry)) at ⌝ }
+    ensures report { λ _. ⌜ now (out .exit) ≡ reported (now (out .entry)) (writtenWords (writtenFrom (now (fields .entry)) (length (now (words .entry))) (length (now (buffer .entry))) at)) ⌝ }
 {
-    let a = given_message::write_from(buffer, at, fields, words);
-    tell_written(out, a)
+    let written = c_arguments::write_from(buffer, at, fields, words);
+    c_answers::report_written(out, written)
 }
 
-// Checks a whole job. Tells the refusal number and the offset of the bad field.
+// Checks a whole job. Reports the refusal number and the offset of the bad field.
 #[no_mangle]
 pub extern "C" fn duzh_check_job(job: &[u8], out: &mut [u64]) -> u64
     ensures refusal { λ r. ⌜ r ≡ checkJob (now (job .entry)) .refusal ⌝ }
-    ensures told { λ _. ⌜ now (out .exit) ≡ told (now (out .entry)) (checkedWords (checkJob (now (job .entry)))) ⌝ }
+    ensures report { λ _. ⌜ now (out .exit) ≡ reported (now (out .entry)) (checkedWords (checkJob (now (job .entry)))) ⌝ }
 {
-    let a = job_format::check_job(job);
-    tell_checked(out, a)
+    let checked = job_format::check_job(job);
+    c_answers::report_checked(out, checked)
 }

@@ -1,2 +1,10 @@
+pub mod HeaderLaws
+pub mod Tests
+pub mod Entries
 pub mod TableLaws
 pub mod RuleLaws
+pub mod ReadLaws
+pub mod WriteLaws
+pub mod RoundTrips
+pub mod RoundCalls
+pub mod Examples

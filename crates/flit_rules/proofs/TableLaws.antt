@@ -6,51 +6,51 @@ use Prim.Native.Nat.{ℕ, _+_}
 use lib.Dec.{T, eqb}
 use borrow.Author.Tests.{eqb-true}
 use mathlib.Core.Logic.{_⊎_, inl, inr, ⊎-elim}
-use Rattle.flit_table.specs.declared.Row.{Row}
-use Rattle.flit_table.proofs.Tests.{is-true, and-left, and-right, or-true}
-use Rattle.flit_table.specs.Table.{Line, lines, member, find, rowOf, absent, extra}
-use Rattle.flit_rules.specs.Rules.{known, lengthAllowed}
+use Rattle.flit_rules.specs.declared.TypeRow.{TypeRow}
+use Rattle.flit_rules.proofs.Tests.{is-true, and-left, and-right, or-cases}
+use Rattle.flit_rules.specs.Table.{TableLine, tableLines, isOneOf, findRow, rowOf, absentRow, headerExtra}
+use Rattle.flit_rules.specs.Rules.{inTable, lengthAllowed}
 
 -- what a test says of each line's row, and of the absent one, holds of the row of any type
-unfoldable pub every : (Row → Bool) → List Line → Bool
+unfoldable pub every : (TypeRow → Bool) → List TableLine → Bool
 every p [] = true
 every p (l ∷ ls) = p (l .row) && every p ls
 
-found : (p : Row → Bool) (t : ℕ) (ls : List Line) → T (every p ls) → T (p absent) → T (p (find t ls))
+found : (p : TypeRow → Bool) (t : ℕ) (ls : List TableLine) → T (every p ls) → T (p absentRow) → T (p (findRow t ls))
 unfolding every
 found p t [] e a = a
-found p t (l ∷ ls) e a = pick (member t (l .types)) (and-left (p (l .row)) (every p ls) e) (found p t ls (and-right (p (l .row)) (every p ls) e) a)
+found p t (l ∷ ls) e a = pick (isOneOf t (l .types)) (and-left (p (l .row)) (every p ls) e) (found p t ls (and-right (p (l .row)) (every p ls) e) a)
   where
-    pick : (b : Bool) → T (p (l .row)) → T (p (find t ls)) → T (p (cond b (l .row) (find t ls)))
+    pick : (b : Bool) → T (p (l .row)) → T (p (findRow t ls)) → T (p (cond b (l .row) (findRow t ls)))
     pick true x y = x
     pick false x y = y
 
-pub row-holds : (p : Row → Bool) → T (every p lines) → T (p absent) → (t : ℕ) → T (p (rowOf t))
+pub row-holds : (p : TypeRow → Bool) → T (every p tableLines) → T (p absentRow) → (t : ℕ) → T (p (rowOf t))
 unfolding rowOf
-row-holds p e a t = found p t lines e a
+row-holds p e a t = found p t tableLines e a
 
 -- the lengths of a row are those of its header flits, with eight words of data or none
-lengths : Row → Bool
-lengths row = not (known row) || (eqb (row .short) (extra row) || eqb (row .short) (extra row + 8)) && (eqb (row .long) (extra row) || eqb (row .long) (extra row + 8))
+lengths : TypeRow → Bool
+lengths row = not (inTable row) || (eqb (row .short) (headerExtra row) || eqb (row .short) (headerExtra row + 8)) && (eqb (row .long) (headerExtra row) || eqb (row .long) (headerExtra row + 8))
 
 either : (a b e : ℕ) → (eqb a b || eqb a e) ≡ true → (a ≡ b) ⊎ (a ≡ e)
 either a b e h =
-    ⊎-elim (λ (p : eqb a b ≡ true). inl (eqb-true a b p)) (λ (p : eqb a e ≡ true). inr (eqb-true a e p)) (or-true (eqb a b) (eqb a e) h)
+    ⊎-elim (λ (p : eqb a b ≡ true). inl (eqb-true a b p)) (λ (p : eqb a e ≡ true). inr (eqb-true a e p)) (or-cases (eqb a b) (eqb a e) h)
 
-fits-row : (r : Row) (n : ℕ) → T (eqb n (extra r) || eqb n (extra r + 8)) → (n ≡ extra r) ⊎ (n ≡ extra r + 8)
-fits-row r n p = either n (extra r) (extra r + 8) (is-true (eqb n (extra r) || eqb n (extra r + 8)) p)
+fits-row : (r : TypeRow) (n : ℕ) → T (eqb n (headerExtra r) || eqb n (headerExtra r + 8)) → (n ≡ headerExtra r) ⊎ (n ≡ headerExtra r + 8)
+fits-row r n p = either n (headerExtra r) (headerExtra r + 8) (is-true (eqb n (headerExtra r) || eqb n (headerExtra r + 8)) p)
 
-row-fits : (r : Row) (n : ℕ) → T (lengths r) → known r ≡ true → lengthAllowed r n ≡ true → (n ≡ extra r) ⊎ (n ≡ extra r + 8)
+row-fits : (r : TypeRow) (n : ℕ) → T (lengths r) → inTable r ≡ true → lengthAllowed r n ≡ true → (n ≡ headerExtra r) ⊎ (n ≡ headerExtra r + 8)
 unfolding lengths
 row-fits r n p k l =
-    let short = eqb (r .short) (extra r) || eqb (r .short) (extra r + 8) in
-    let long = eqb (r .long) (extra r) || eqb (r .long) (extra r + 8) in
+    let short = eqb (r .short) (headerExtra r) || eqb (r .short) (headerExtra r + 8) in
+    let long = eqb (r .long) (headerExtra r) || eqb (r .long) (headerExtra r + 8) in
     let both : T (short && long) = rw k at p in
     ⊎-elim
     (λ (e : n ≡ r .short). rw e (fits-row r (r .short) (and-left short long both)))
     (λ (e : n ≡ r .long). rw e (fits-row r (r .long) (and-right short long both)))
     (either n (r .short) (r .long) l)
 
-pub row-lengths : (t n : ℕ) → known (rowOf t) ≡ true → lengthAllowed (rowOf t) n ≡ true → (n ≡ extra (rowOf t)) ⊎ (n ≡ extra (rowOf t) + 8)
+pub row-lengths : (t n : ℕ) → inTable (rowOf t) ≡ true → lengthAllowed (rowOf t) n ≡ true → (n ≡ headerExtra (rowOf t)) ⊎ (n ≡ headerExtra (rowOf t) + 8)
 unfolding rowOf lengths every
-row-lengths t n = row-fits (find t lines) n (found lengths t lines tt tt)
+row-lengths t n = row-fits (findRow t tableLines) n (found lengths t tableLines tt tt)

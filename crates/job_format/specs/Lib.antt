@@ -1,2 +1,6 @@
+pub mod Places
+pub mod Bytes
+pub mod Fields
+pub mod Check
 pub mod Job
 pub mod Accepted

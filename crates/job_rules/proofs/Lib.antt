@@ -1,2 +1,4 @@
+pub mod Buffers
 pub mod Room
-pub mod Turns
+pub mod Pieces
+pub mod Examples

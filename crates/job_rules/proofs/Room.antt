@@ -11,21 +11,22 @@ use Rattle.lists.specs.Over.{bufferAfter, placeAfter, Placed, Put}
 use Rattle.lists.proofs.OverLaws.{over-nil, placed-put, placed-length, join}
 use Rattle.protocol.specs.Home.{members}
 use Rattle.coherence.proofs.Falls.{members-length}
-use Rattle.answers.specs.declared.Answer.{Answer}
-use Rattle.sent.specs.declared.Place.{Place}
-use Rattle.sent.specs.Places.{place, each, both, placesOf}
+use Rattle.protocol.specs.declared.Answer.{Answer}
+use Rattle.messages.specs.declared.queues.BenchQueue.{BenchQueue}
+use Rattle.messages.specs.Queues.{benchQueue, queueOfEach, noc3ThenNoc1, sentQueues}
 use Rattle.messages.specs.declared.Sent.{Sent}
 use Rattle.messages.specs.Rows.{sentAt}
-use Rattle.message_fields.specs.Fields.{fieldsOf, wordsOf}
-use Rattle.flit_writing.specs.Writing.{writeRefusal, flitsOf}
-use Rattle.lines.specs.Lines.{decimal, callLine, messageLine}
-use Rattle.lines.proofs.Digits.{decimal-le}
-use Rattle.number_lines.proofs.NumberLaws.{call-length}
-use Rattle.message_lines.proofs.FlitLaws.{message-length}
-use Rattle.answer_rules.specs.Pieces.{buffersAfter, placesAfter, AllPlaced}
-use Rattle.answer_rules.specs.Answer.{sentFlits, sentLine, sentLines, answerLines}
-use Rattle.job_rules.specs.Room.{bytesOf, most, Fitted-statement, Room-statement}
-use Rattle.answer_rules.proofs.Pieces.{fits, flits-length}
+use Rattle.message_flits.specs.Fields.{messageFields, messageData}
+use Rattle.flits.specs.Writing.{writeRefusal, flitsOf}
+use Rattle.listing.specs.Digits.{decimal}
+use Rattle.listing.specs.Lines.{callLine, messageLine}
+use Rattle.listing.proofs.DigitLaws.{decimal-le}
+use Rattle.listing.proofs.LineLaws.{call-length, message-length}
+use Rattle.job_rules.specs.Buffers.{buffersAfter, placesAfter, AllPlaced}
+use Rattle.job_rules.specs.AnswerLines.{sentFlits, sentLine, sentLines, answerLines}
+use Rattle.job_rules.specs.Room.{bytesOf, MOST-CALL-BYTES, Fitted-statement, Room-statement}
+use Rattle.flits.proofs.Laws.{flits-length}
+use Rattle.job_rules.proofs.Buffers.{fits}
 
 -- ---- lines that fit
 
@@ -63,46 +64,46 @@ call-le n r k v = omega (arith, call-length n r k v _ _ _ _ refl refl refl refl,
 
 flits-le : (line : ℕ) (m : Sent) → length (sentFlits line m) ≤ 11
 unfolding sentFlits
-flits-le line m = go (eqb (writeRefusal (fieldsOf line (m .queue) (m .tile) (m .row)) (length (wordsOf (m .row))) 11 0) 0) refl
+flits-le line m = go (eqb (writeRefusal (messageFields line (m .queue) (m .tile) (m .row)) (length (messageData (m .row))) 11 0) 0) refl
   where
-    go : (t : Bool) → eqb (writeRefusal (fieldsOf line (m .queue) (m .tile) (m .row)) (length (wordsOf (m .row))) 11 0) 0 ≡ t
-        → length (cond t (flitsOf (fieldsOf line (m .queue) (m .tile) (m .row)) (wordsOf (m .row))) []) ≤ 11
-    go true e = omega (arith, fits (fieldsOf line (m .queue) (m .tile) (m .row)) (wordsOf (m .row)) 11 (eqb-true _ _ e), flits-length (fieldsOf line (m .queue) (m .tile) (m .row)) (wordsOf (m .row)))
+    go : (t : Bool) → eqb (writeRefusal (messageFields line (m .queue) (m .tile) (m .row)) (length (messageData (m .row))) 11 0) 0 ≡ t
+        → length (cond t (flitsOf (messageFields line (m .queue) (m .tile) (m .row)) (messageData (m .row))) []) ≤ 11
+    go true e = omega (arith, fits (messageFields line (m .queue) (m .tile) (m .row)) (messageData (m .row)) 11 (eqb-true _ _ e), flits-length (messageFields line (m .queue) (m .tile) (m .row)) (messageData (m .row)))
     go false e = omega arith
 
 line-le : (line : ℕ) (m : Sent) → length (sentLine line m) ≤ 189
 line-le line m = omega (arith, message-length (sentFlits line m), flits-le line m)
 
-lines-le : (line : ℕ) (l : List ℕ) (ps : List Place) → length (bytesOf (sentLines line l ps)) ≤ length ps * 189
+lines-le : (line : ℕ) (l : List ℕ) (ps : List BenchQueue) → length (bytesOf (sentLines line l ps)) ≤ length ps * 189
 unfolding sentLines bytesOf
 lines-le line l [] = omega arith
 lines-le line l (p ∷ ps) = omega (arith, length-append (sentLine line (sentAt l p)) (bytesOf (sentLines line l ps)), line-le line (sentAt l p), lines-le line l ps)
 
-each-length : (q : ℕ) (ts : List ℕ) → length (each q ts) ≡ length ts
-unfolding each
+each-length : (q : ℕ) (ts : List ℕ) → length (queueOfEach q ts) ≡ length ts
+unfolding queueOfEach
 each-length q [] = refl
 each-length q (t ∷ ts) = ap suc (each-length q ts)
 
-both-le : (ts : List ℕ) → length (both ts) ≤ 64
-unfolding both
+both-le : (ts : List ℕ) → length (noc3ThenNoc1 ts) ≤ 64
+unfolding noc3ThenNoc1
 both-le [] = omega arith
 both-le (t ∷ ts) = omega arith
 
-places-if : (b : Bool) (x y : List Place) → length x ≤ 64 → length y ≤ 64 → length (cond b x y) ≤ 64
+places-if : (b : Bool) (x y : List BenchQueue) → length x ≤ 64 → length y ≤ 64 → length (cond b x y) ≤ 64
 places-if true x y h k = h
 places-if false x y h k = k
 
-places-le : (s m : ℕ) → length (placesOf s m) ≤ 64
-unfolding placesOf
+places-le : (s m : ℕ) → length (sentQueues s m) ≤ 64
+unfolding sentQueues
 places-le s m =
     places-if (eqb s 0) _ _ (omega arith)
     (places-if (leb s 3) _ _ (omega (arith, each-length s (members m 64), members-length m 64))
     (places-if (leb s 5) _ _ (omega arith) (places-if (eqb s 6) _ _ (both-le (members m 64)) (omega arith))))
 
-pub answer-le : (line n : ℕ) (a : Answer) (l : List ℕ) → length (bytesOf (answerLines line n a l)) ≤ most
+pub answer-le : (line n : ℕ) (a : Answer) (l : List ℕ) → length (bytesOf (answerLines line n a l)) ≤ MOST-CALL-BYTES
 unfolding answerLines bytesOf
 answer-le line n a l =
-    omega (arith, length-append (callLine n (a .refusal) (a .kind) (a .value)) (bytesOf (sentLines line l (placesOf (a .sent) (a .tiles)))), call-le n (a .refusal) (a .kind) (a .value), lines-le line l (placesOf (a .sent) (a .tiles)), places-le (a .sent) (a .tiles))
+    omega (arith, length-append (callLine n (a .refusal) (a .kind) (a .value)) (bytesOf (sentLines line l (sentQueues (a .sent) (a .tiles)))), call-le n (a .refusal) (a .kind) (a .value), lines-le line l (sentQueues (a .sent) (a .tiles)), places-le (a .sent) (a .tiles))
 
 placed-at : (l : List ℕ) (i : ℕ) (v : List ℕ) → i + length v ≤ length l → placeAfter l i v ≡ i + length v
 unfolding placeAfter

@@ -1,4 +1,7 @@
-pub mod Run
+pub mod Calls
+pub mod AnswerLines
 pub mod Listing
+pub mod Buffers
 pub mod Room
-pub mod Turns
+pub mod RunStates
+pub mod Pieces

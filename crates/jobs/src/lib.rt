@@ -1,129 +1,145 @@
 // Jobs on a bench (01, 'Jobs'): each call of a job is one on the bench in lent words, and its lines go into a lent buffer. A whole job runs in
 // pieces: each puts as much of the listing into the buffer as surely fits, from the buffer's start on, and answers how much that is and
-// where the run goes on. A buffer of fewer than 12,180 bytes gets nothing.
+// where the run goes on. A buffer of fewer than MOST_CALL_BYTES bytes gets nothing.
+// - arguments: what a job gives to a bench; message_lines, call_lines: the lines of a call; ends: a run's last line
+// - lib: a call made, and the pieces
+// The definitions are crate job_rules.
+mod arguments;
+mod call_lines;
+mod ends;
+mod message_lines;
+
 ghost use mathlib.Core.Path.{_≡_};
 ghost use Prim.Native.Nat.{suc, _+_, _≤_, _<_};
 ghost use mathlib.Core.Bool.{true};
 ghost use lib.ListN.{length};
-ghost use Rattle.calls.specs.Calls.{stepOn, answerOf, wordsAfter};
-ghost use Rattle.theorems.specs.Runs.{afterCall};
-ghost use Rattle.job_format.specs.Job.{callOf};
-ghost use Rattle.answer_rules.specs.Pieces.{AllPlaced};
-ghost use Rattle.run_states.specs.Run.{Puts};
-ghost use Rattle.job_rules.specs.Run.{benchCall};
+ghost use Rattle.calls.specs.Calls.{answerTo, afterCall};
+ghost use Rattle.job_format.specs.Job.{callNumbersOf};
+ghost use Rattle.job_rules.specs.Calls.{benchCall};
+ghost use Rattle.job_rules.specs.Buffers.{AllPlaced};
 ghost use Rattle.job_rules.specs.Listing.{callLines};
-ghost use Rattle.job_rules.specs.Room.{most};
-ghost use Rattle.job_rules.specs.Turns.{turnsFrom, acceptedPiece, firstPiece, nextPiece, callLeft};
-pub use answer_lines::answer_lines;
-use answers::Answer;
-pub use job_args::start_job;
+ghost use Rattle.job_rules.specs.Room.{MOST-CALL-BYTES};
+ghost use Rattle.job_rules.specs.RunStates.{PutsPiece};
+ghost use Rattle.job_rules.specs.Pieces.{pieceFrom, acceptedPiece, firstPiece, nextPiece, callLeft};
+pub use arguments::start_job;
+pub use call_lines::answer_lines;
+use calls::Answer;
 use job_format::JobCall;
-pub use run_states::Run;
+use job_rules::MOST_CALL_BYTES;
+pub use job_rules::Run;
+use numbers::refusals::ACCEPTED;
 
 // A job's call on the bench in the lent words.
-pub fn run_call(w: &mut [u64], c: JobCall) -> Answer
-    ensures answer { λ r. ⌜ r ≡ answerOf (stepOn (now (w .entry)) (benchCall (callOf c))) ⌝ }
-    ensures words { λ _. ⌜ now (w .exit) ≡ wordsAfter (now (w .entry)) (stepOn (now (w .entry)) (benchCall (callOf c))) ⌝ }
+pub fn run_call(words: &mut [u64], call: JobCall) -> Answer
+    ensures answer { λ r. ⌜ r ≡ answerTo (benchCall (callNumbersOf call)) (now (words .entry)) ⌝ }
+    ensures after { λ _. ⌜ now (words .exit) ≡ afterCall (benchCall (callNumbersOf call)) (now (words .entry)) ⌝ }
 {
-    if call_tags::is_tile(c.tag) {
-        let a = job_args::tile_args(c);
-        tile_calls::at_tile(w, a.tag, a.tile, a.word, a.value)
+    if calls::is_tile_call(call.tag) {
+        let at = arguments::tile_call(call);
+        bench::at_tile(words, at.tag, at.tile, at.word, at.value)
     } else {
-        let a = job_args::home_args(c);
-        home_calls::at_home(w, a.tag, a.tile)
+        let at = arguments::home_call(call);
+        bench::at_home(words, at.tag, at.tile)
     }
 }
 
 // Makes a job's call on the bench in the words, and writes its lines.
 pub fn list_call(
-    w: &mut [u64],
-    c: JobCall,
-    buf: &mut [u8],
+    words: &mut [u64],
+    call: JobCall,
+    buffer: &mut [u8],
     at: usize,
     line: u64,
     number: u64,
 ) -> usize
-    ensures words { λ _. ⌜ now (w .exit) ≡ afterCall (benchCall (callOf c)) (now (w .entry)) ⌝ }
-    ensures lines { λ r. ⌜ AllPlaced (now (buf .entry)) (now (buf .exit)) at r (callLines line number (benchCall (callOf c)) (now (w .entry))) ⌝ }
+    ensures after { λ _. ⌜ now (words .exit) ≡ afterCall (benchCall (callNumbersOf call)) (now (words .entry)) ⌝ }
+    ensures lines { λ r. ⌜ AllPlaced (now (buffer .entry)) (now (buffer .exit)) at r (callLines line number (benchCall (callNumbersOf call)) (now (words .entry))) ⌝ }
 {
-    let a = run_call(w, c);
-    answer_lines::answer_lines(buf, at, w, line, number, a)
+    let answer = run_call(words, call);
+    call_lines::answer_lines(buffer, at, words, line, number, answer)
 }
 
 // Makes the next call and puts its lines.
-fn call(w: &mut [u64], job: &[u8], buf: &mut [u8], line: u64, r: Run) -> Run
-    requires { ⌜ (r .put + most ≤ length (now buf)) × (r .at < length (now job)) × (r .calls < r .at) ⌝ }
-    ensures { λ a. ⌜ Puts (r .put) (now (buf .entry)) (callLeft (now (job .entry)) line (r .calls) (r .at) (now (w .entry))) a (now (w .exit)) (now (buf .exit)) ⌝ }
+fn make_call(words: &mut [u64], job: &[u8], buffer: &mut [u8], line: u64, run: Run) -> Run
+    requires { ⌜ (run .put + MOST-CALL-BYTES ≤ length (now buffer)) × (run .at < length (now job)) × (run .calls < run .at) ⌝ }
+    ensures { λ a. ⌜ PutsPiece (run .put) (now (buffer .entry)) (callLeft (now (job .entry)) line (run .calls) (run .at) (now (words .entry))) a (now (words .exit)) (now (buffer .exit)) ⌝ }
 {
-    let c = job_format::call_at(job, r.at);
-    let next = c.next;
-    let n = r.calls + 1;
-    let put = list_call(w, c, buf, r.put, line, n);
-    run_states::state(put, true, next, n)
+    let call = job_format::call_at(job, run.at);
+    let next = call.next;
+    let number = run.calls + 1;
+    let put = list_call(words, call, buffer, run.put, line, number);
+    job_rules::run_state(put, true, next, number)
 }
 
 // Call after call, while the next one's lines surely fit, and the last line.
-fn turns(w: &mut [u64], job: &[u8], buf: &mut [u8], line: u64, limit: usize, first: Run) -> Run
-    requires { ⌜ (limit + most ≤ length (now buf)) × (first .calls < first .at) × (first .going ≡ true) × (first .put ≤ length (now buf)) ⌝ }
-    ensures { λ a. ⌜ Puts (first .put) (now (buf .entry)) (turnsFrom (suc (length (now (job .entry)))) (now (job .entry)) line limit (first .put) (first .calls) (first .at) (now (w .entry))) a (now (w .exit)) (now (buf .exit)) ⌝ }
+fn call_after_call(
+    words: &mut [u64],
+    job: &[u8],
+    buffer: &mut [u8],
+    line: u64,
+    limit: usize,
+    first: Run,
+) -> Run
+    requires { ⌜ (limit + MOST-CALL-BYTES ≤ length (now buffer)) × (first .calls < first .at) × (first .going ≡ true) × (first .put ≤ length (now buffer)) ⌝ }
+    ensures { λ a. ⌜ PutsPiece (first .put) (now (buffer .entry)) (pieceFrom (suc (length (now (job .entry)))) (now (job .entry)) line limit (first .put) (first .calls) (first .at) (now (words .entry))) a (now (words .exit)) (now (buffer .exit)) ⌝ }
 {
-    let mut r = first;
-    while r.put <= limit {
-        if r.at >= job.len() {
-            return run_ends::end(buf, r);
+    let mut run = first;
+    while run.put <= limit {
+        if run.at >= job.len() {
+            return ends::end(buffer, run);
         }
-        r = call(w, job, buf, line, r);
+        run = make_call(words, job, buffer, line, run);
     }
-    r
+    run
 }
 
 // The first line of an accepted job, with its bench started in the words, and calls.
-fn accepted(w: &mut [u64], job: &[u8], buf: &mut [u8]) -> Run
-    requires { ⌜ most ≤ length (now buf) ⌝ }
-    ensures { λ a. ⌜ Puts 0 (now (buf .entry)) (acceptedPiece (now (job .entry)) (length (now (buf .entry))) (now (w .entry))) a (now (w .exit)) (now (buf .exit)) ⌝ }
+fn accepted_piece(words: &mut [u64], job: &[u8], buffer: &mut [u8]) -> Run
+    requires { ⌜ MOST-CALL-BYTES ≤ length (now buffer) ⌝ }
+    ensures { λ a. ⌜ PutsPiece 0 (now (buffer .entry)) (acceptedPiece (now (job .entry)) (length (now (buffer .entry))) (now (words .entry))) a (now (words .exit)) (now (buffer .exit)) ⌝ }
 {
-    job_args::start_job(w, job);
-    let tiles = job_format::tiles(job);
+    arguments::start_job(words, job);
+    let tiles = job_format::tile_count(job);
     let line = job_format::line_address(job);
-    let put = listing::bench_line(buf, 0, tiles, line);
-    let limit = buf.len() - 12180;
-    turns(w, job, buf, line, limit, run_states::begin(put))
+    let put = listing::bench_line(buffer, 0, tiles, line);
+    let limit = buffer.len() - MOST_CALL_BYTES;
+    call_after_call(words, job, buffer, line, limit, job_rules::begin(put))
 }
 
 // The first piece: the line of a refused job; or the bench started in the words, the first line and as many calls as surely fit.
-pub fn first_piece(w: &mut [u64], job: &[u8], buf: &mut [u8]) -> Run
-    ensures { λ a. ⌜ Puts 0 (now (buf .entry)) (firstPiece (now (job .entry)) (length (now (buf .entry))) (now (w .entry))) a (now (w .exit)) (now (buf .exit)) ⌝ }
+pub fn first_piece(words: &mut [u64], job: &[u8], buffer: &mut [u8]) -> Run
+    ensures { λ a. ⌜ PutsPiece 0 (now (buffer .entry)) (firstPiece (now (job .entry)) (length (now (buffer .entry))) (now (words .entry))) a (now (words .exit)) (now (buffer .exit)) ⌝ }
 {
-    if buf.len() < 12180 {
-        run_states::state(0, false, 0, 0)
+    if buffer.len() < MOST_CALL_BYTES {
+        job_rules::run_state(0, false, 0, 0)
     } else {
-        let c = job_format::check_job(job);
-        let number = c.refusal;
-        if number == 0 {
-            accepted(w, job, buf)
+        let checked = job_format::check_job(job);
+        let number = checked.refusal;
+        if number == ACCEPTED {
+            accepted_piece(words, job, buffer)
         } else {
-            run_ends::refused(buf, c)
+            ends::refused(buffer, checked)
         }
     }
 }
 
 // The next piece of a run that goes on.
-pub fn next_piece(w: &mut [u64], job: &[u8], buf: &mut [u8], r: Run) -> Run
-    ensures { λ a. ⌜ Puts 0 (now (buf .entry)) (nextPiece (now (job .entry)) (length (now (buf .entry))) r (now (w .entry))) a (now (w .exit)) (now (buf .exit)) ⌝ }
+pub fn next_piece(words: &mut [u64], job: &[u8], buffer: &mut [u8], run: Run) -> Run
+    ensures { λ a. ⌜ PutsPiece 0 (now (buffer .entry)) (nextPiece (now (job .entry)) (length (now (buffer .entry))) run (now (words .entry))) a (now (words .exit)) (now (buffer .exit)) ⌝ }
 {
-    if buf.len() < 12180 {
-        run_states::state(0, false, 0, 0)
+    if buffer.len() < MOST_CALL_BYTES {
+        job_rules::run_state(0, false, 0, 0)
     } else {
-        if r.going {
-            if r.calls < r.at as u64 {
+        if run.going {
+            if run.calls < run.at as u64 {
                 let line = job_format::line_address(job);
-                let limit = buf.len() - 12180;
-                turns(w, job, buf, line, limit, run_states::resume(r))
+                let limit = buffer.len() - MOST_CALL_BYTES;
+                call_after_call(words, job, buffer, line, limit, job_rules::resume(run))
             } else {
-                run_states::state(0, false, 0, 0)
+                job_rules::run_state(0, false, 0, 0)
             }
         } else {
-            run_states::state(0, false, 0, 0)
+            job_rules::run_state(0, false, 0, 0)
         }
     }
 }

@@ -1,1 +1,4 @@
-pub mod BenchLaws
+pub mod DigitLaws
+pub mod PutLaws
+pub mod LineLaws
+pub mod Examples

@@ -7,8 +7,8 @@ use native.Mathlib.Omega.{arith}
 use native.Mathlib.Nat.{add-assoc, add-zero}
 use native.Mathlib.Numerals.{add-one}
 use lib.Dec.{leb}
-use lib.ListN.{length, getD, set, take, drop, length-append, length-take, length-drop, length-set, take-append-drop}
-use lib.Seq.{drop-append-add, drop-drop, drop-cons, length-take-le, take-at, set-split, take-set-le, drop-set-lt, getD-set-same}
+use lib.ListN.{length, set, take, drop, length-append, length-take, length-drop, length-set, take-append-drop}
+use lib.Seq.{drop-append-add, drop-drop, drop-cons, length-take-le, take-at, drop-at, set-split, take-set-le, drop-set-lt, getD-set-same}
 use borrow.Author.Tests.{le-leb, lt-leb, leb-true, leb-false}
 use Rattle.lists.specs.Over.{over, bufferAfter, placeAfter, Placed, Put}
 
@@ -36,6 +36,11 @@ over-nil l i = rw add-zero (take-append-drop i l)
 pub over-one : (l : List ℕ) (i a : ℕ) → i < length l → set l i a ≡ over l i (a ∷ [])
 unfolding over
 over-one l i a h = rw add-one (set-split l i a h)
+
+-- what was written stands at its place, before what stood behind it
+pub at-place : (l : List ℕ) (i : ℕ) (vs : List ℕ) → i ≤ length l → drop i (over l i vs) ≡ vs ++ drop (i + length vs) l
+unfolding over
+at-place l i vs h = drop-at (take i l) (vs ++ drop (i + length vs) l) i (length-take-le i l h)
 
 -- two pieces one after the other are one
 pub over-over : (l : List ℕ) (i j : ℕ) (xs ys : List ℕ) → i ≤ length l → j ≡ i + length xs → over (over l i xs) j ys ≡ over l i (xs ++ ys)

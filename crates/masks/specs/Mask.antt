@@ -2,6 +2,7 @@
 use mathlib.Core.Bool.{Bool, cond}
 use Prim.Native.Nat.{ℕ, _+_, _-_, _/_, _%_, _^_}
 use lib.Dec.{eqb, ltb}
+use Rattle.bits.specs.Field.{WORD-BITS}
 
 -- tile t is in
 unfoldable pub has : ℕ → ℕ → Bool
@@ -17,4 +18,4 @@ del m t = cond (has m t) (m - 2 ^ t) m
 
 -- m with tile t in a word of 64 bits: no tile of 64 or above can be added
 abbrev pub add64 : ℕ → ℕ → ℕ
-add64 m t = cond (ltb t 64) (add m t) m
+add64 m t = cond (ltb t WORD-BITS) (add m t) m

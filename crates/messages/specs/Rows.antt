@@ -1,48 +1,62 @@
 -- The rows of the messages that a call sent, in the words after it: each is the last of its queue.
-use Prim.Native.Nat.{ℕ, _+_, _*_}
+use Prim.Native.Nat.{ℕ, _+_, _-_, _*_}
 use mathlib.Core.Bool.{cond}
 use mathlib.Core.List.{List}
 use lib.Dec.{eqb, ltb, leb}
 use lib.ListN.{length, getD}
-use Rattle.words.specs.declared.Row.{Row}
-use Rattle.words.specs.declared.Pair.{Pair}
-use Rattle.words.specs.Blocks.{pairAt}
-use Rattle.codec.specs.Encode.{noRow, encRequest, encForward, encReply, encToMemory, encFromMemory}
+use Rattle.numbers.specs.Limits.{MOST-TILES}
+use Rattle.numbers.specs.Queues.{NO-QUEUE, NOC1, NOC2, NOC3, TO-MEMORY, FROM-MEMORY}
+use Rattle.numbers.specs.Types.{NO-MESSAGE}
+use Rattle.layout.specs.Places.{SECOND, QUEUE-WORDS, TILE-NOC1, TILE-WORDS, HOME-TO-MEMORY, HOME-FROM-MEMORY, HOME-WORDS}
+use Rattle.layout.specs.declared.rows.Row.{Row}
+use Rattle.layout.specs.declared.rows.Pair.{Pair}
+use Rattle.layout.specs.Blocks.{pairAt}
+use Rattle.layout.specs.Encode.{noRow, encRequest, encForward, encReply, encToMemory, encFromMemory}
 use Rattle.protocol.specs.Parts.{Message, onNoc1, onNoc2, onNoc3, toMemory, fromMemory}
-use Rattle.sent.specs.declared.Place.{Place}
-use Rattle.sent.specs.Places.{nowhere, placesOf}
+use Rattle.calls.specs.Calls.{tileCount}
+use Rattle.messages.specs.declared.queues.BenchQueue.{BenchQueue}
+use Rattle.messages.specs.Queues.{noQueue, sentQueues}
 use Rattle.messages.specs.declared.Sent.{Sent}
 
--- the last message of a queue of two rows: a free place has type 0
+-- no queue of a bench of at most 64 tiles stands behind this place
+abbrev pub PLACES-END : ℕ
+PLACES-END = 10000
+
+-- the last message of a queue of two rows: a free place has no type
 unfoldable pub lastRow : Pair → Row
-lastRow q = cond (eqb (q .b .n0) 0) (q .a) (q .b)
+lastRow q = cond (eqb (q .b .n0) NO-MESSAGE) (q .a) (q .b)
 
 -- of the queue that stands at a place of the words, none where they are too short
-unfoldable pub rowFrom : List ℕ → ℕ → Row
-rowFrom l at = cond (leb (at + 24) (length l)) (lastRow (pairAt l at)) noRow
+unfoldable pub lastRowAt : List ℕ → ℕ → Row
+lastRowAt l at = cond (leb (at + QUEUE-WORDS) (length l)) (lastRow (pairAt l at)) noRow
 
 -- of NoC1, NoC2 or NoC3 of a tile, none where the bench has no such tile
-unfoldable pub ofTile : List ℕ → ℕ → ℕ → Row
-ofTile l q t = cond (ltb t 64) (cond (ltb t (getD l 0 0)) (rowFrom l (62 + 84 * t + 24 * q)) noRow) noRow
+unfoldable pub tileRow : List ℕ → ℕ → ℕ → Row
+tileRow l q t =
+    cond (ltb t MOST-TILES)
+    (cond (ltb t (tileCount l)) (lastRowAt l (HOME-WORDS + TILE-WORDS * t + TILE-NOC1 + QUEUE-WORDS * (q - 1))) noRow) noRow
 
 -- of any queue
-unfoldable pub rowIn : List ℕ → ℕ → ℕ → Row
-rowIn l q t = cond (eqb q 0) noRow (cond (leb q 3) (ofTile l q t) (cond (eqb q 4) (rowFrom l 26) (cond (eqb q 5) (rowFrom l 50) noRow)))
+unfoldable pub rowOn : List ℕ → ℕ → ℕ → Row
+rowOn l q t =
+    cond (eqb q NO-QUEUE) noRow
+    (cond (leb q NOC3) (tileRow l q t)
+    (cond (eqb q TO-MEMORY) (lastRowAt l HOME-TO-MEMORY) (cond (eqb q FROM-MEMORY) (lastRowAt l HOME-FROM-MEMORY) noRow)))
 
-unfoldable pub sentAt : List ℕ → Place → Sent
-sentAt l p = record { queue = p .queue; tile = p .tile; row = rowIn l (p .queue) (p .tile) }
+unfoldable pub sentAt : List ℕ → BenchQueue → Sent
+sentAt l p = record { queue = p .queue; tile = p .tile; row = rowOn l (p .queue) (p .tile) }
 
 -- the i-th message of an answer, sent on s, to the tiles m
-unfoldable pub messageOf : List ℕ → ℕ → ℕ → ℕ → Sent
-messageOf l s m i = sentAt l (getD (placesOf s m) i nowhere)
+unfoldable pub sentMessage : List ℕ → ℕ → ℕ → ℕ → Sent
+sentMessage l s m i = sentAt l (getD (sentQueues s m) i noQueue)
 
 -- the numbers of a message: its queue, its tile (0 for memory) and its row
-unfoldable pub sentOf : Message → Sent
-sentOf (onNoc1 t m) = record { queue = 1; tile = t; row = encRequest m }
-sentOf (onNoc2 t m) = record { queue = 2; tile = t; row = encForward m }
-sentOf (onNoc3 t m) = record { queue = 3; tile = t; row = encReply m }
-sentOf (toMemory m) = record { queue = 4; tile = 0; row = encToMemory m }
-sentOf (fromMemory m) = record { queue = 5; tile = 0; row = encFromMemory m }
+unfoldable pub numbersOfMessage : Message → Sent
+numbersOfMessage (onNoc1 t m) = record { queue = NOC1; tile = t; row = encRequest m }
+numbersOfMessage (onNoc2 t m) = record { queue = NOC2; tile = t; row = encForward m }
+numbersOfMessage (onNoc3 t m) = record { queue = NOC3; tile = t; row = encReply m }
+numbersOfMessage (toMemory m) = record { queue = TO-MEMORY; tile = 0; row = encToMemory m }
+numbersOfMessage (fromMemory m) = record { queue = FROM-MEMORY; tile = 0; row = encFromMemory m }
 
 abbrev pub noSent : Sent
-noSent = record { queue = 0; tile = 0; row = noRow }
+noSent = record { queue = NO-QUEUE; tile = 0; row = noRow }

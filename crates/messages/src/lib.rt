@@ -1,14 +1,36 @@
-// The messages that a call sent, read out of the lent words after it.
+// The messages that a call sent, read out of the words after it (01: 'which messages it sent'). An answer says in two numbers, `sent` and
+// `tiles`, on which queues they are; each is the last of its queue.
+// - queues (specs/Queues): the queues of an answer; lib (specs/Rows): the message on one
+mod queues;
+
 ghost use mathlib.Core.Path.{_≡_};
 ghost use Prim.Native.Nat.{_≤_};
 ghost use lib.ListN.{length, getD};
-ghost use Rattle.codec.specs.Encode.{noRow};
-ghost use Rattle.sent.specs.Places.{placesOf};
-ghost use Rattle.messages.specs.Rows.{rowFrom, ofTile, rowIn, messageOf};
-use words::Row;
+ghost use Rattle.numbers.specs.Queues.{NOC1, NOC3};
+ghost use Rattle.layout.specs.Encode.{noRow};
+ghost use Rattle.calls.specs.Calls.{tileCount};
+ghost use Rattle.messages.specs.Queues.{sentQueues};
+ghost use Rattle.messages.specs.Rows.{PLACES-END, lastRowAt, tileRow, rowOn, sentMessage};
+use layout::Row;
+use layout::places::HOME_FROM_MEMORY;
+use layout::places::HOME_TILE_COUNT;
+use layout::places::HOME_TO_MEMORY;
+use layout::places::HOME_WORDS;
+use layout::places::QUEUE_WORDS;
+use layout::places::SECOND;
+use layout::places::TILE_NOC1;
+use layout::places::TILE_WORDS;
+use numbers::limits::LINE_LENGTH;
+use numbers::limits::MOST_TILES;
+use numbers::queues::FROM_MEMORY;
+use numbers::queues::NO_QUEUE;
+use numbers::queues::NOC3;
+use numbers::queues::TO_MEMORY;
+use numbers::types::NO_MESSAGE;
+pub use queues::count;
 
-// A message that was sent: its queue (1 to 3 for NoC1 to NoC3 of the tile, 4 to memory, 5 from memory) and its row: type, word, state,
-// flag, data. Where there is none the row has type 0.
+// A message that was sent: the number of its queue, the tile whose queue it is (0 for memory's), and its row: type, word, state, flag, data.
+// Where there is none the row has no type.
 pub struct Sent {
     pub queue: u64,
     pub tile: u64,
@@ -19,45 +41,50 @@ fn no_row() -> Row
     ensures { λ r. ⌜ r ≡ noRow ⌝ }
 {
     Row {
-        n0: 0,
+        n0: NO_MESSAGE,
         n1: 0,
         n2: 0,
         n3: 0,
-        words: [0; 8],
+        words: [0; LINE_LENGTH],
     }
 }
 
 // The last message of the queue that stands at a place.
-fn row_from(w: &[u64], at: usize) -> Row
-    requires { ⌜ at ≤ 10000 ⌝ }
-    ensures { λ r. ⌜ r ≡ rowFrom (now (w .entry)) at ⌝ }
+fn last_row_at(words: &[u64], at: usize) -> Row
+    requires { ⌜ at ≤ PLACES-END ⌝ }
+    ensures { λ r. ⌜ r ≡ lastRowAt (now (words .entry)) at ⌝ }
 {
-    if at + 24 <= w.len() {
-        let second = w[at + 12];
-        if second == 0 {
-            words::read_row(w, at)
+    if at + QUEUE_WORDS <= words.len() {
+        let second = words[at + SECOND];
+        if second == NO_MESSAGE {
+            layout::read_row(words, at)
         } else {
-            words::read_row(w, at + 12)
+            layout::read_row(words, at + SECOND)
         }
     } else {
         no_row()
     }
 }
 
-fn tile_count(w: &[u64]) -> u64
-    ensures { λ r. ⌜ r ≡ getD (now (w .entry)) 0 0 ⌝ }
+fn tile_count(words: &[u64]) -> u64
+    ensures { λ r. ⌜ r ≡ tileCount (now (words .entry)) ⌝ }
 {
-    if 0 < w.len() { w[0] } else { 0 }
+    if HOME_TILE_COUNT < words.len() {
+        words[HOME_TILE_COUNT]
+    } else {
+        0
+    }
 }
 
-// Of queue 1, 2 or 3 of a tile of the bench.
-fn of_tile(w: &[u64], queue: u64, tile: u64) -> Row
-    requires { ⌜ queue ≤ 3 ⌝ }
-    ensures { λ r. ⌜ r ≡ ofTile (now (w .entry)) queue tile ⌝ }
+// Of NoC1, NoC2 or NoC3 of a tile of the bench.
+fn tile_row(words: &[u64], queue: u64, tile: u64) -> Row
+    requires { ⌜ (NOC1 ≤ queue) × (queue ≤ NOC3) ⌝ }
+    ensures { λ r. ⌜ r ≡ tileRow (now (words .entry)) queue tile ⌝ }
 {
-    if tile < 64 {
-        if tile < tile_count(w) {
-            row_from(w, 62 + 84 * (tile as usize) + 24 * (queue as usize))
+    if tile < MOST_TILES {
+        if tile < tile_count(words) {
+            let first = HOME_WORDS + TILE_WORDS * (tile as usize) + TILE_NOC1;
+            last_row_at(words, first + QUEUE_WORDS * (queue as usize - 1))
         } else {
             no_row()
         }
@@ -66,20 +93,20 @@ fn of_tile(w: &[u64], queue: u64, tile: u64) -> Row
     }
 }
 
-fn row_in(w: &[u64], queue: u64, tile: u64) -> Row
-    ensures { λ r. ⌜ r ≡ rowIn (now (w .entry)) queue tile ⌝ }
+fn row_on(words: &[u64], queue: u64, tile: u64) -> Row
+    ensures { λ r. ⌜ r ≡ rowOn (now (words .entry)) queue tile ⌝ }
 {
-    if queue == 0 {
+    if queue == NO_QUEUE {
         no_row()
     } else {
-        if queue <= 3 {
-            of_tile(w, queue, tile)
+        if queue <= NOC3 {
+            tile_row(words, queue, tile)
         } else {
-            if queue == 4 {
-                row_from(w, 26)
+            if queue == TO_MEMORY {
+                last_row_at(words, HOME_TO_MEMORY)
             } else {
-                if queue == 5 {
-                    row_from(w, 50)
+                if queue == FROM_MEMORY {
+                    last_row_at(words, HOME_FROM_MEMORY)
                 } else {
                     no_row()
                 }
@@ -88,22 +115,15 @@ fn row_in(w: &[u64], queue: u64, tile: u64) -> Row
     }
 }
 
-// How many messages an answer has, from its numbers `sent` and `tiles`.
-pub fn count(sent: u64, tiles: u64) -> u64
-    ensures { λ r. ⌜ r ≡ length (placesOf sent tiles) ⌝ }
+// The message of this index, from 0, of an answer, out of the words after the call.
+pub fn message(words: &[u64], sent: u64, tiles: u64, index: u64) -> Sent
+    ensures { λ r. ⌜ r ≡ sentMessage (now (words .entry)) sent tiles index ⌝ }
 {
-    sent_queues::count(sent, tiles)
-}
-
-// The i-th of them, from 0, out of the words after the call.
-pub fn message(w: &[u64], sent: u64, tiles: u64, i: u64) -> Sent
-    ensures { λ r. ⌜ r ≡ messageOf (now (w .entry)) sent tiles i ⌝ }
-{
-    let p = sent_queues::queue_of(sent, tiles, i);
-    let row = row_in(w, p.queue, p.tile);
+    let on = queues::queue_of(sent, tiles, index);
+    let row = row_on(words, on.queue, on.tile);
     Sent {
-        queue: p.queue,
-        tile: p.tile,
+        queue: on.queue,
+        tile: on.tile,
         row,
     }
 }

@@ -66,7 +66,7 @@ unfoldable pub pick : Option ℕ → Option ℕ → Option ℕ
 pick none o = o
 pick (some u) o = some u
 
-first-append : (f : ℕ → Bool) (xs ys : List ℕ) → firstOf f (xs ++ ys) ≡ pick (firstOf f xs) (firstOf f ys)
+pub first-append : (f : ℕ → Bool) (xs ys : List ℕ) → firstOf f (xs ++ ys) ≡ pick (firstOf f xs) (firstOf f ys)
 unfolding firstOf pick
 first-append f [] ys = refl
 first-append f (x ∷ xs) ys = go (f x) (first-append f xs ys)

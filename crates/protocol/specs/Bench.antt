@@ -7,7 +7,10 @@ use mathlib.Core.Option.{Option, some, none, Option·map}
 use lib.Dec.{ltb}
 use lib.ListN.{length, getD, set, replicate}
 use Rattle.masks.specs.Mask.{has, add, del}
-use Rattle.protocol.specs.Parts.{Words, Queue, empty, one, two, Access, reading, writing, Cache, invalid, Waiting, nothing, Request, loadReq, storeReq, wbGuardReq, Forward, Reply, wbReq, loadFwdAckS, loadFwdAckI, storeFwdAck, invFwdAck, ToMemory, loadMem, storeMem, FromMemory, loadMemAck, storeMemAck, Message, onNoc1, onNoc2, onNoc3, toMemory, fromMemory, Tile, tileOf, Line, absent, present, Home, idle, awaitingLoad, awaitingOwner, awaitingAcks, awaitingStore, Bench, benchOf, Call, load, store, evict, taking, toTile, fromTile, memoryStep, memoryAck, homeEviction, Result, refused, accepted}
+use Rattle.numbers.specs.Kinds.{KIND-OTHER, KIND-SENT}
+use Rattle.numbers.specs.Limits.{LINE-WORDS}
+use Rattle.numbers.specs.Refusals.{NO-TILE, NO-WORD, NO-LINE, NOT-IDLE, NOTHING-THERE, MISFIT, QUEUE-FULL}
+use Rattle.protocol.specs.Parts.{Words, Queue, empty, one, two, Access, reading, writing, Cache, invalid, Waiting, nothing, Request, loadReq, storeReq, wbGuardReq, Forward, Reply, wbReq, loadFwdAckS, loadFwdAckI, storeFwdAck, invFwdAck, ToMemory, loadMem, storeMem, FromMemory, loadMemAck, storeMemAck, Message, onNoc1, onNoc2, onNoc3, toMemory, fromMemory, Tile, tileOf, Line, absent, present, Home, idle, awaitingLoad, awaitingOwner, awaitingAcks, awaitingStore, Bench, benchOf, Call, load, store, evict, taking, toTile, fromTile, memoryStep, memoryAck, homeEviction, Result, refused, accepted, Task, task, Write, storing}
 use Rattle.protocol.specs.Tile.{loadAt, storeAt, evictAt, deliverTo}
 use Rattle.protocol.specs.Home.{Move, move, range, serve, writeBack, loadAckS, loadAckI, storeAck, invAck, acknowledged, evictLine}
 
@@ -22,6 +25,16 @@ fresh n mem = benchOf (idle absent) (n - 1) 0 mem empty empty (replicate n fresh
 -- tile t of a list of tiles
 abbrev pub tileAt : List Tile → ℕ → Tile
 tileAt ts t = getD ts t freshTile
+
+-- and its queues
+unfoldable pub noc1 : Tile → Queue Request
+noc1 (tileOf c p q1 q2 q3) = q1
+
+unfoldable pub noc2 : Tile → Queue Forward
+noc2 (tileOf c p q1 q2 q3) = q2
+
+unfoldable pub noc3 : Tile → Queue Reply
+noc3 (tileOf c p q1 q2 q3) = q3
 
 -- Queues are first in, first out, and hold at most two: `none` where there is no room.
 unfoldable pub push : {A : Type 0} → A → Queue A → Option (Queue A)
@@ -66,17 +79,17 @@ send [] o = o
 send (m ∷ ms) o = send ms (sendTo m o)
 
 -- 9: a queue that must take a message holds two
-unfoldable pub sent : ℕ → ℕ → List Message → Option Bench → Result Bench
-sent k v ms none = refused 9
-sent k v ms (some b) = accepted k v b ms
+unfoldable pub outcome : ℕ → ℕ → List Message → Option Bench → Result Bench
+outcome k v ms none = refused QUEUE-FULL
+outcome k v ms (some b) = accepted k v b ms
 
 unfoldable pub posted : ℕ → ℕ → List Message → Bench → Result Bench
-posted k v ms b = sent k v ms (send ms (some b))
+posted k v ms b = outcome k v ms (send ms (some b))
 
 -- kind 3 message sent, 0 otherwise
 unfoldable pub kindOf : List Message → ℕ
-kindOf [] = 0
-kindOf (m ∷ ms) = 3
+kindOf [] = KIND-OTHER
+kindOf (m ∷ ms) = KIND-SENT
 
 -- a tile's rule at tile t: 2, tile number T or above
 unfoldable pub settle : ℕ → Bench → Result Tile → Result Bench
@@ -84,11 +97,11 @@ settle t b (refused n) = refused n
 settle t (benchOf h l k mem out back ts) (accepted kd v x ms) = posted kd v ms (benchOf h l k mem out back (set ts t x))
 
 unfoldable pub atTile : ℕ → (Tile → Result Tile) → Bench → Result Bench
-atTile t f (benchOf h l k mem out back ts) = cond (ltb t (length ts)) (settle t (benchOf h l k mem out back ts) (f (tileAt ts t))) (refused 2)
+atTile t f (benchOf h l k mem out back ts) = cond (ltb t (length ts)) (settle t (benchOf h l k mem out back ts) (f (tileAt ts t))) (refused NO-TILE)
 
 -- 3, word 8 or above
 unfoldable pub atWord : ℕ → Result Tile → Result Tile
-atWord w r = cond (ltb w 8) r (refused 3)
+atWord w r = cond (ltb w LINE-WORDS) r (refused NO-WORD)
 
 -- Taking. In circle order after the last taken l, the first of n tiles ..
 unfoldable pub circle : ℕ → ℕ → List ℕ
@@ -111,9 +124,6 @@ eligible mark (tileOf c p (two wbGuardReq m) q2 q3) = mark
 unfoldable pub arbitrate : ℕ → ℕ → List Tile → Option ℕ
 arbitrate l k ts = firstOf (λ t. eligible (has k t) (tileAt ts t)) (circle l (length ts))
 
-unfoldable pub noc1 : Tile → Queue Request
-noc1 (tileOf c p q1 q2 q3) = q1
-
 unfoldable pub popNoc1 : Tile → Tile
 popNoc1 (tileOf c p q1 q2 q3) = tileOf c p (rest q1) q2 q3
 
@@ -121,76 +131,73 @@ popNoc1 (tileOf c p q1 q2 q3) = tileOf c p (rest q1) q2 q3
 unfoldable pub served : ℕ → Move → ℕ → Words → Queue ToMemory → Queue FromMemory → List Tile → Result Bench
 served t (move h ms) k mem out back ts = posted (kindOf ms) t ms (benchOf h t k mem out back ts)
 
-unfoldable pub take : ℕ → Option Request → Line → ℕ → Words → Queue ToMemory → Queue FromMemory → List Tile → Result Bench
-take t none x k mem out back ts = refused 7
-take t (some wbGuardReq) x k mem out back ts = accepted 0 t (benchOf (idle x) t (del k t) mem out back ts) []
-take t (some (loadReq w)) x k mem out back ts = served t (serve (length ts) t reading x) k mem out back ts
-take t (some (storeReq w)) x k mem out back ts = served t (serve (length ts) t writing x) k mem out back ts
+unfoldable pub takeFront : ℕ → Option Request → Line → ℕ → Words → Queue ToMemory → Queue FromMemory → List Tile → Result Bench
+takeFront t none x k mem out back ts = refused NOTHING-THERE
+takeFront t (some wbGuardReq) x k mem out back ts = accepted KIND-OTHER t (benchOf (idle x) t (del k t) mem out back ts) []
+takeFront t (some (loadReq w)) x k mem out back ts = served t (serve (length ts) (task t reading) x) k mem out back ts
+takeFront t (some (storeReq w)) x k mem out back ts = served t (serve (length ts) (task t (writing storing)) x) k mem out back ts
 
-unfoldable pub takeFrom : Option ℕ → Line → ℕ → Words → Queue ToMemory → Queue FromMemory → List Tile → Result Bench
-takeFrom none x k mem out back ts = refused 7
-takeFrom (some t) x k mem out back ts = take t (front (noc1 (tileAt ts t))) x k mem out back (set ts t (popNoc1 (tileAt ts t)))
+unfoldable pub takeChosen : Option ℕ → Line → ℕ → Words → Queue ToMemory → Queue FromMemory → List Tile → Result Bench
+takeChosen none x k mem out back ts = refused NOTHING-THERE
+takeChosen (some t) x k mem out back ts = takeFront t (front (noc1 (tileAt ts t))) x k mem out back (set ts t (popNoc1 (tileAt ts t)))
 
 unfoldable pub takingOn : Bench → Result Bench
-takingOn (benchOf (idle x) l k mem out back ts) = takeFrom (arbitrate l k ts) x k mem out back ts
-takingOn (benchOf (awaitingLoad r a x) l k mem out back ts) = refused 6
-takingOn (benchOf (awaitingOwner d ws o c) l k mem out back ts) = refused 6
-takingOn (benchOf (awaitingAcks d ws m owed c) l k mem out back ts) = refused 6
-takingOn (benchOf (awaitingStore x) l k mem out back ts) = refused 6
+takingOn (benchOf (idle x) l k mem out back ts) = takeChosen (arbitrate l k ts) x k mem out back ts
+takingOn (benchOf (awaitingLoad r x) l k mem out back ts) = refused NOT-IDLE
+takingOn (benchOf (awaitingOwner d ws o c) l k mem out back ts) = refused NOT-IDLE
+takingOn (benchOf (awaitingAcks d ws m owed c) l k mem out back ts) = refused NOT-IDLE
+takingOn (benchOf (awaitingStore x) l k mem out back ts) = refused NOT-IDLE
 
 -- Delivery from tile t, whose NoC3 front is m: 8 where it does not fit.
-unfoldable pub noc3 : Tile → Queue Reply
-noc3 (tileOf c p q1 q2 q3) = q3
-
 unfoldable pub popNoc3 : Tile → Tile
 popNoc3 (tileOf c p q1 q2 q3) = tileOf c p q1 q2 (rest q3)
 
 -- a write-back sets the mark, and sends nothing
 unfoldable pub writtenBack : ℕ → Option Home → ℕ → ℕ → Words → Queue ToMemory → Queue FromMemory → List Tile → Result Bench
-writtenBack t none l k mem out back ts = refused 8
-writtenBack t (some h) l k mem out back ts = accepted 0 0 (benchOf h l (add k t) mem out back ts) []
+writtenBack t none l k mem out back ts = refused MISFIT
+writtenBack t (some h) l k mem out back ts = accepted KIND-OTHER 0 (benchOf h l (add k t) mem out back ts) []
 
-unfoldable pub moved : Option Move → ℕ → ℕ → Words → Queue ToMemory → Queue FromMemory → List Tile → Result Bench
-moved none l k mem out back ts = refused 8
-moved (some (move h ms)) l k mem out back ts = posted (kindOf ms) 0 ms (benchOf h l k mem out back ts)
+unfoldable pub fitted : Option Move → ℕ → ℕ → Words → Queue ToMemory → Queue FromMemory → List Tile → Result Bench
+fitted none l k mem out back ts = refused MISFIT
+fitted (some (move h ms)) l k mem out back ts = posted (kindOf ms) 0 ms (benchOf h l k mem out back ts)
 
-unfoldable pub accept : ℕ → Option Reply → Home → ℕ → ℕ → Words → Queue ToMemory → Queue FromMemory → List Tile → Result Bench
-accept t none h l k mem out back ts = refused 7
-accept t (some (wbReq ws)) h l k mem out back ts = writtenBack t (writeBack t ws (has k t) h) l k mem out back ts
-accept t (some (loadFwdAckS x)) h l k mem out back ts = moved (loadAckS t x h) l k mem out back ts
-accept t (some loadFwdAckI) h l k mem out back ts = moved (loadAckI t h) l k mem out back ts
-accept t (some (storeFwdAck x)) h l k mem out back ts = moved (storeAck t x h) l k mem out back ts
-accept t (some invFwdAck) h l k mem out back ts = moved (invAck t h) l k mem out back ts
+unfoldable pub acceptReply : ℕ → Option Reply → Home → ℕ → ℕ → Words → Queue ToMemory → Queue FromMemory → List Tile → Result Bench
+acceptReply t none h l k mem out back ts = refused NOTHING-THERE
+acceptReply t (some (wbReq ws)) h l k mem out back ts = writtenBack t (writeBack t ws (has k t) h) l k mem out back ts
+acceptReply t (some (loadFwdAckS x)) h l k mem out back ts = fitted (loadAckS t x h) l k mem out back ts
+acceptReply t (some loadFwdAckI) h l k mem out back ts = fitted (loadAckI t h) l k mem out back ts
+acceptReply t (some (storeFwdAck x)) h l k mem out back ts = fitted (storeAck t x h) l k mem out back ts
+acceptReply t (some invFwdAck) h l k mem out back ts = fitted (invAck t h) l k mem out back ts
 
 unfoldable pub fromTileOn : ℕ → Bench → Result Bench
 fromTileOn t (benchOf h l k mem out back ts) =
-    cond (ltb t (length ts)) (accept t (front (noc3 (tileAt ts t))) h l k mem out back (set ts t (popNoc3 (tileAt ts t)))) (refused 2)
+    cond (ltb t (length ts)) (acceptReply t (front (noc3 (tileAt ts t))) h l k mem out back (set ts t (popNoc3 (tileAt ts t)))) (refused NO-TILE)
 
 -- Memory step. Serves its front: LOAD_MEM reads, STORE_MEM replaces; each is acknowledged.
 unfoldable pub memoryServes : Option ToMemory → Home → ℕ → ℕ → Words → Queue ToMemory → Queue FromMemory → List Tile → Result Bench
-memoryServes none h l k mem out back ts = refused 7
-memoryServes (some loadMem) h l k mem out back ts = posted 3 0 (fromMemory (loadMemAck mem) ∷ []) (benchOf h l k mem out back ts)
-memoryServes (some (storeMem ws)) h l k mem out back ts = posted 3 0 (fromMemory storeMemAck ∷ []) (benchOf h l k ws out back ts)
+memoryServes none h l k mem out back ts = refused NOTHING-THERE
+memoryServes (some loadMem) h l k mem out back ts = posted KIND-SENT 0 (fromMemory (loadMemAck mem) ∷ []) (benchOf h l k mem out back ts)
+memoryServes (some (storeMem ws)) h l k mem out back ts = posted KIND-SENT 0 (fromMemory storeMemAck ∷ []) (benchOf h l k ws out back ts)
 
 unfoldable pub memoryStepOn : Bench → Result Bench
 memoryStepOn (benchOf h l k mem out back ts) = memoryServes (front out) h l k mem (rest out) back ts
 
 -- Memory ack.
 unfoldable pub acceptAck : Option FromMemory → Home → ℕ → ℕ → Words → Queue ToMemory → Queue FromMemory → List Tile → Result Bench
-acceptAck none h l k mem out back ts = refused 7
-acceptAck (some m) h l k mem out back ts = moved (acknowledged m h) l k mem out back ts
+acceptAck none h l k mem out back ts = refused NOTHING-THERE
+acceptAck (some m) h l k mem out back ts = fitted (acknowledged m h) l k mem out back ts
 
 unfoldable pub memoryAckOn : Bench → Result Bench
 memoryAckOn (benchOf h l k mem out back ts) = acceptAck (front back) h l k mem out (rest back) ts
 
 -- Home eviction: 6 is tested before 5.
 unfoldable pub homeEvictionOn : Bench → Result Bench
-homeEvictionOn (benchOf (idle absent) l k mem out back ts) = refused 5
-homeEvictionOn (benchOf (idle (present d ws x)) l k mem out back ts) = moved (some (evictLine (length ts) d ws x)) l k mem out back ts
-homeEvictionOn (benchOf (awaitingLoad r a x) l k mem out back ts) = refused 6
-homeEvictionOn (benchOf (awaitingOwner d ws o c) l k mem out back ts) = refused 6
-homeEvictionOn (benchOf (awaitingAcks d ws m owed c) l k mem out back ts) = refused 6
-homeEvictionOn (benchOf (awaitingStore x) l k mem out back ts) = refused 6
+homeEvictionOn (benchOf (idle absent) l k mem out back ts) = refused NO-LINE
+homeEvictionOn (benchOf (idle (present d ws x)) l k mem out back ts) = fitted (some (evictLine (length ts) d ws x)) l k mem out back ts
+homeEvictionOn (benchOf (awaitingLoad r x) l k mem out back ts) = refused NOT-IDLE
+homeEvictionOn (benchOf (awaitingOwner d ws o c) l k mem out back ts) = refused NOT-IDLE
+homeEvictionOn (benchOf (awaitingAcks d ws m owed c) l k mem out back ts) = refused NOT-IDLE
+homeEvictionOn (benchOf (awaitingStore x) l k mem out back ts) = refused NOT-IDLE
 
 -- every call
 unfoldable pub step : Call → Bench → Result Bench

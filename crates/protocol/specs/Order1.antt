@@ -1,14 +1,21 @@
--- Document 02, order 1: one writer, and the last word stored. One claim about one list of calls on a fresh bench, as demand 3 takes them.
+-- Document 02, order 1: one writer, and the last word stored. One claim about one list of calls on a fresh bench, as demand 3 takes them,
+-- and of every machine (Runs.antt).
 use Prim.Native.Nat.{ℕ, _≤_}
 use mathlib.Core.Path.{_≡_}
-use mathlib.Core.Bool.{Bool, cond, true, false, _&&_, _||_}
-use mathlib.Core.List.{List, [], _∷_, _++_}
+use mathlib.Core.Bool.{Bool, cond, true, false}
+use mathlib.Core.List.{List, [], _∷_}
 use lib.Dec.{eqb}
 use lib.ListN.{length, getD}
 use Rattle.masks.specs.Mask.{has}
-use Rattle.protocol.specs.Parts.{Words, shared, exclusive, modified, invalid, valid, Waiting, nothing, forLoad, forStore, Tile, tileOf, Directory, uncached, sharedBy, ownedBy, Line, absent, present, Home, idle, awaitingLoad, awaitingOwner, awaitingAcks, awaitingStore, Bench, benchOf, Call, load, store, evict, taking, toTile, fromTile, memoryStep, memoryAck, homeEviction}
-use Rattle.protocol.specs.Bench.{fresh, tileAt, step}
-use Rattle.protocol.specs.Demand3.{runs, Answer, answer, answered, hasKind, Event, event, history, tilesOf}
+use Rattle.numbers.specs.Kinds.{KIND-LOADED, KIND-STORED}
+use Rattle.numbers.specs.Limits.{MOST-TILES, LINE-WORDS}
+use Rattle.protocol.specs.declared.Answer.{Answer}
+use Rattle.protocol.specs.Parts.{Words, shared, exclusive, modified, invalid, valid, Waiting, nothing, forLoad, forStore, Tile, tileOf, Directory, uncached, sharedBy, ownedBy, Line, absent, present, Home, idle, awaitingLoad, awaitingOwner, awaitingAcks, awaitingStore, Bench, benchOf, Call}
+use Rattle.protocol.specs.Bench.{fresh, tileAt}
+use Rattle.protocol.specs.Calls.{Role, accesses, deliversTo, takes, neither, roleOf}
+use Rattle.protocol.specs.Answers.{hasKind}
+use Rattle.protocol.specs.Runs.{Machine, rules, runs, Event, event, history, waitsForAfter, waitsFor}
+use Rattle.protocol.specs.Demand3.{tilesOf}
 
 -- ---- one writer
 
@@ -31,7 +38,7 @@ lineDirectory (present d ws x) = x
 
 unfoldable pub homeDirectory : Home → Directory
 homeDirectory (idle l) = lineDirectory l
-homeDirectory (awaitingLoad r a l) = lineDirectory l
+homeDirectory (awaitingLoad r l) = lineDirectory l
 homeDirectory (awaitingOwner d ws o c) = ownedBy o
 homeDirectory (awaitingAcks d ws m owed c) = sharedBy m
 homeDirectory (awaitingStore l) = lineDirectory l
@@ -53,19 +60,6 @@ pub record Coherent (b : Bench) : Type 0 where
 
 -- ---- the word last written, from the history of calls and answers alone
 
--- What tile t waits for, x before the event: from the accepted call that sends its request to the accepted delivery to it of
--- kind 1 or 2, as in demand 3.
-unfoldable pub waitsForAfter : ℕ → Event → Waiting → Waiting
-waitsForAfter t (event (load u w) r) x = cond (eqb u t && hasKind 3 r) (forLoad w) x
-waitsForAfter t (event (store u w v) r) x = cond (eqb u t && hasKind 3 r) (forStore w v) x
-waitsForAfter t (event (evict u) r) x = x
-waitsForAfter t (event taking r) x = x
-waitsForAfter t (event (toTile u) r) x = cond (eqb u t && (hasKind 1 r || hasKind 2 r)) nothing x
-waitsForAfter t (event (fromTile u) r) x = x
-waitsForAfter t (event memoryStep r) x = x
-waitsForAfter t (event memoryAck r) x = x
-waitsForAfter t (event homeEviction r) x = x
-
 -- the word w, x before, after the store that a tile waited for
 unfoldable pub storedWord : ℕ → Waiting → ℕ → ℕ
 storedWord w nothing x = x
@@ -74,63 +68,54 @@ storedWord w (forStore u v) x = cond (eqb u w) v x
 
 -- The word w last written, x before the event, with q t what tile t waited for: a store of kind 2 writes, at a hit its own word and
 -- value, at a fill those of the store that its tile waited for.
-unfoldable pub wordAfter : ℕ → Event → (ℕ → Waiting) → ℕ → ℕ
-wordAfter w (event (load t u) r) q x = x
-wordAfter w (event (store t u v) r) q x = cond (hasKind 2 r) (storedWord w (forStore u v) x) x
-wordAfter w (event (evict t) r) q x = x
-wordAfter w (event taking r) q x = x
-wordAfter w (event (toTile t) r) q x = cond (hasKind 2 r) (storedWord w (q t) x) x
-wordAfter w (event (fromTile t) r) q x = x
-wordAfter w (event memoryStep r) q x = x
-wordAfter w (event memoryAck r) q x = x
-wordAfter w (event homeEviction r) q x = x
+unfoldable pub wordBy : ℕ → Role → Answer → (ℕ → Waiting) → ℕ → ℕ
+wordBy w (accesses t p) r q x = cond (hasKind KIND-STORED r) (storedWord w p x) x
+wordBy w (deliversTo t) r q x = cond (hasKind KIND-STORED r) (storedWord w (q t) x) x
+wordBy w takes r q x = x
+wordBy w neither r q x = x
 
--- along a history
-unfoldable pub waitsForSince : (ℕ → Waiting) → List Event → ℕ → Waiting
-waitsForSince q [] = q
-waitsForSince q (e ∷ es) = waitsForSince (λ t. waitsForAfter t e (q t)) es
+unfoldable pub wordAfter : ℕ → Event → (ℕ → Waiting) → ℕ → ℕ
+wordAfter w (event c r) q x = wordBy w (roleOf c) r q x
 
 unfoldable pub wordSince : ℕ → (ℕ → Waiting) → ℕ → List Event → ℕ
 wordSince w q x [] = x
 wordSince w q x (e ∷ es) = wordSince w (λ t. waitsForAfter t e (q t)) (wordAfter w e q x) es
 
--- from a fresh bench, in which nobody waits: what tile t waits for; the word w last written, or the starting memory word where none was
-unfoldable pub waitsFor : List Event → ℕ → Waiting
-waitsFor es = waitsForSince (λ t. nothing) es
-
+-- from a fresh bench, in which nobody waits: the word w last written, or the starting memory word where none was
 unfoldable pub lastWritten : Words → List Event → ℕ → ℕ
 lastWritten mem es w = wordSince w (λ t. nothing) (getD mem w 0) es
 
 -- ---- the claim
 
-unfoldable pub valueOf : Answer → ℕ
-valueOf (answer n k v) = v
+-- neither a load nor a store is answered
+abbrev pub AnswersNeither : Answer → Type 0
+AnswersNeither r = (hasKind KIND-LOADED r ≡ false) × (hasKind KIND-STORED r ≡ false)
 
--- What is claimed of the call c, answered r, with last w the word w last written before it and q t what tile t then waits for.
-unfoldable pub GivesLast : (ℕ → ℕ) → (ℕ → Waiting) → Call → Answer → Type 0
+-- What is claimed of a call in its role, answered r, with last w the word w last written before it and q t what tile t then waits for.
+unfoldable pub GivesLast : (ℕ → ℕ) → (ℕ → Waiting) → Role → Answer → Type 0
 -- a load answered at a hit gives the word last written
-GivesLast last q (load t w) r = (hasKind 1 r ≡ true → valueOf r ≡ last w) × (hasKind 2 r ≡ false)
-GivesLast last q (store t w v) r = hasKind 1 r ≡ false
+GivesLast last q (accesses t (forLoad w)) r = (hasKind KIND-LOADED r ≡ true → r .value ≡ last w) × (hasKind KIND-STORED r ≡ false)
+GivesLast last q (accesses t (forStore w v)) r = hasKind KIND-LOADED r ≡ false
 -- a load answered at a fill is the one that its tile waits for, and gives the word last written; a store answered at a fill is the one that its
 -- tile waits for
-GivesLast last q (toTile t) r =
-    (hasKind 1 r ≡ true → (w : ℕ) × (q t ≡ forLoad w) × (valueOf r ≡ last w)) × (hasKind 2 r ≡ true → (w : ℕ) × (v : ℕ) × (q t ≡ forStore w v))
+GivesLast last q (deliversTo t) r =
+    (hasKind KIND-LOADED r ≡ true → (w : ℕ) × (q t ≡ forLoad w) × (r .value ≡ last w)) × (hasKind KIND-STORED r ≡ true → (w : ℕ) × (v : ℕ) × (q t ≡ forStore w v))
 -- no other call answers a load or a store
-GivesLast last q (evict t) r = (hasKind 1 r ≡ false) × (hasKind 2 r ≡ false)
-GivesLast last q taking r = (hasKind 1 r ≡ false) × (hasKind 2 r ≡ false)
-GivesLast last q (fromTile t) r = (hasKind 1 r ≡ false) × (hasKind 2 r ≡ false)
-GivesLast last q memoryStep r = (hasKind 1 r ≡ false) × (hasKind 2 r ≡ false)
-GivesLast last q memoryAck r = (hasKind 1 r ≡ false) × (hasKind 2 r ≡ false)
-GivesLast last q homeEviction r = (hasKind 1 r ≡ false) × (hasKind 2 r ≡ false)
+GivesLast last q (accesses t nothing) r = AnswersNeither r
+GivesLast last q takes r = AnswersNeither r
+GivesLast last q neither r = AnswersNeither r
 
--- The claim, of n tiles, eight memory words and a list of calls.
-pub record Order1 (n : ℕ) (mem : Words) (cs : List Call) : Type 0 where
-  -- one writer and the directory, after each of the calls
-  pub coherent : (before later : List Call) → cs ≡ before ++ later → Coherent (runs before (fresh n mem))
-  -- the last word stored, at each of the calls
-  pub last-word : (before : List Call) (c : Call) (later : List Call) → cs ≡ before ++ (c ∷ later)
-      → GivesLast (lastWritten mem (history before (fresh n mem))) (waitsFor (history before (fresh n mem))) c (answered (step c (runs before (fresh n mem))))
+-- The claim, of a machine begun with these memory words, the calls made so far with their answers, es, and the state s that they left.
+pub record Order1 (m : Machine) (mem : Words) (es : List Event) (s : m .State) : Type 0 where
+  -- one writer and the directory
+  pub coherent : Coherent (m .view s)
+  -- the last word stored, at every next call
+  pub last-word : (c : Call) → GivesLast (lastWritten mem es) (waitsFor es) (roleOf c) (m .answer c s)
 
--- order 1: the claim holds of every number of tiles from 1 to 64, all memory words and every list of calls
+-- the claim of the list of calls cs, begun in the state s
+abbrev pub Order1-from : (m : Machine) → Words → m .State → List Call → Type 0
+Order1-from m mem s cs = Order1 m mem (history m cs s) (runs m cs s)
+
+-- order 1 of the rules: after each of any calls, and at each of them, of every number of tiles from 1 to 64 and all memory words
 abbrev pub Order1-statement : Type 0
-Order1-statement = (n : ℕ) → 1 ≤ n → n ≤ 64 → (mem : Words) → length mem ≡ 8 → (cs : List Call) → Order1 n mem cs
+Order1-statement = (n : ℕ) → 1 ≤ n → n ≤ MOST-TILES → (mem : Words) → length mem ≡ LINE-WORDS → (cs : List Call) → Order1-from rules mem (fresh n mem) cs

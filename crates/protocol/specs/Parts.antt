@@ -1,11 +1,12 @@
 -- Document 01, 'The bench': what the tiles, the home, the memory and the queues between them hold.
 -- The types leave no room for most of what 01 calls malformed: a tile in I has no words, an L2 line that is not valid has
 -- no directory, the home waits for the owner only with an owner. What types do not say (tile numbers, words below 8, eight
--- words in a line) is the codec's to test.
+-- words in a line) is said of lent words (crate layout, specs/Range).
 use Prim.Native.Nat.{ℕ}
 use mathlib.Core.Bool.{Bool}
 use mathlib.Core.List.{List}
 use mathlib.Core.Option.{Option}
+use Rattle.numbers.specs.States.{STATE-I, STATE-S, STATE-E, STATE-M}
 
 -- a line's eight 64-bit words
 abbrev pub Words : Type 0
@@ -17,18 +18,37 @@ pub data Queue (A : Type 0) : Type 0 where
   one : A → Queue A
   two : A → A → Queue A
 
+-- what is done with a line that only the home holds: it is granted to a store
+pub data Write : Type 0 where
+  storing : Write
+
 -- what a request is for
 pub data Access : Type 0 where
-  reading writing : Access
+  reading : Access
+  writing : Write → Access
+
+-- a request that the home acts for: its tile, and what it asks
+pub data Task (A : Type 0) : Type 0 where
+  task : ℕ → A → Task A
 
 -- 01's states S, E and M
-pub data Right : Type 0 where
-  shared exclusive modified : Right
+pub data State : Type 0 where
+  shared exclusive modified : State
 
 -- a tile's state with its words: I has none
 pub data Cache : Type 0 where
   invalid : Cache
-  valid : Right → Words → Cache
+  valid : State → Words → Cache
+
+-- their numbers: I=0, S=1, E=2, M=3
+unfoldable pub stateNumber : State → ℕ
+stateNumber shared = STATE-S
+stateNumber exclusive = STATE-E
+stateNumber modified = STATE-M
+
+unfoldable pub cacheState : Cache → ℕ
+cacheState invalid = STATE-I
+cacheState (valid s ws) = stateNumber s
 
 -- a tile's waiting load (word) or store (word, value)
 pub data Waiting : Type 0 where
@@ -44,7 +64,7 @@ pub data Request : Type 0 where
 -- NoC2, home to tile: types 16, 17, 18, and 29 with its state, L2 miss and words
 pub data Forward : Type 0 where
   loadFwd storeFwd invFwd : Forward
-  dataAck : Right → Bool → Words → Forward
+  dataAck : State → Bool → Words → Forward
 
 -- NoC3, tile to home: type 12; 21 in state S, with data or without, and in state I; 22, with data or without; 23
 pub data Reply : Type 0 where
@@ -89,19 +109,19 @@ pub data Line : Type 0 where
 
 -- on whose behalf the home waits for the owner: a tile's request or an eviction
 pub data Cause : Type 0 where
-  request : ℕ → Access → Cause
+  request : Task Access → Cause
   eviction : Cause
 
 -- on whose behalf it waits for invalidations: a tile's store or an eviction
 pub data Clearing : Type 0 where
-  clearForStore : ℕ → Clearing
+  clearFor : Task Write → Clearing
   clearForEviction : Clearing
 
--- idle; or waiting for memory load (requester, access); for the owner (dirty, words, owner, cause), directory E;
+-- idle; or waiting for memory load (for a request); for the owner (dirty, words, owner, cause), directory E;
 -- for invalidations (dirty, words, mask, tiles still owed, cause), directory S; for memory store
 pub data Home : Type 0 where
   idle : Line → Home
-  awaitingLoad : ℕ → Access → Line → Home
+  awaitingLoad : Task Access → Line → Home
   awaitingOwner : Bool → Words → ℕ → Cause → Home
   awaitingAcks : Bool → Words → ℕ → ℕ → Clearing → Home
   awaitingStore : Line → Home

@@ -1,4 +1,8 @@
-pub mod Started
-pub mod RoundTrip
-pub mod Demand3
-pub mod Order1
+pub mod WellFormed
+pub mod Calls
+pub mod Claims
+pub mod Read
+pub mod Messages
+pub mod Accepted
+pub mod ReadsBack
+pub mod Beats

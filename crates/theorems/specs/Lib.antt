@@ -1,3 +1,5 @@
-pub mod Runs
-pub mod Theorems
-pub mod Order1
+pub mod WellFormed
+pub mod Calls
+pub mod Claims
+pub mod Messages
+pub mod Beats

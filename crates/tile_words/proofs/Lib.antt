@@ -1,1 +1,4 @@
-pub mod Acts
+pub mod InPlace
+pub mod Then
+pub mod Front
+pub mod Stepped

@@ -1,53 +1,68 @@
-// A move of a tile made in place, on the words where its block stands.
+// A tile's step on the words of a bench: its numbers are read, its move is decided (crate tile_rules), and its refusal number is known before a
+// word is written.
+// - fields: the numbers and the line of a tile's block, read and written where they stand
+// - changes: what a move changes in place; moves: a move made
+// - specs/InPlace, specs/Answers: what these promise, as devices of the proofs
 ghost use mathlib.Core.Path.{_≡_};
 ghost use Prim.Native.Nat.{_+_, _≤_};
 ghost use lib.ListN.{length};
-ghost use Rattle.words.specs.Blocks.{tileAt};
-ghost use Rattle.tile_parts.specs.Steps.{moved, made, valueOf};
-ghost use Rattle.tile_numbers.specs.InPlace.{Puts};
-use tile_parts::TileMove;
+ghost use Rattle.layout.specs.Places.{TILE-WORDS};
+ghost use Rattle.tile_rules.specs.Steps.{tileStepOn};
+ghost use Rattle.tile_words.specs.Answers.{refusedAnswer, acceptedAnswer, stepAnswer};
+ghost use Rattle.tile_words.specs.InPlace.{Steps};
+use numbers::refusals::ACCEPTED;
+use tile_rules::StepAnswer;
 
-fn move_at(w: &mut [u64], at: usize, m: TileMove)
-    requires { ⌜ at + 84 ≤ length (now w) ⌝ }
-    ensures { λ _. ⌜ Puts (now (w .entry)) at (moved m) (now (w .exit)) ⌝ }
+mod changes;
+mod fields;
+mod moves;
+
+fn refused_answer(refusal: u64) -> StepAnswer
+    ensures { λ r. ⌜ r ≡ refusedAnswer refusal ⌝ }
 {
-    let a = m.act;
-    match a {
-        0 => {}
-        1 => tile_acts::asked_at(w, at, m.message, m.waits, m.word, m.value),
-        2 => tile_acts::stored_at(w, at, m.word, m.value),
-        3 => tile_acts::emptied_at(w, at),
-        4 => tile_acts::written_back_at(w, at),
-        5 => tile_acts::answered_at(w, at, m.state, m.message, m.right, m.flag),
-        6 => tile_fills::load_filled_at(w, at, m.state),
-        _ => tile_fills::store_filled_at(w, at, m.word, m.value),
+    StepAnswer {
+        refusal,
+        kind: 0,
+        value: 0,
+        sent: 0,
     }
 }
 
-// A move made where its refusal number r is 0; else the words stay.
-pub fn make_at(w: &mut [u64], at: usize, r: u64, m: TileMove)
-    requires { ⌜ at + 84 ≤ length (now w) ⌝ }
-    ensures { λ _. ⌜ Puts (now (w .entry)) at (made r m) (now (w .exit)) ⌝ }
+fn accepted_answer(kind: u64, value: u64, sent: u64) -> StepAnswer
+    ensures { λ r. ⌜ r ≡ acceptedAnswer kind value sent ⌝ }
 {
-    if r == 0 {
-        move_at(w, at, m);
-    } else {}
+    StepAnswer {
+        refusal: ACCEPTED,
+        kind,
+        value,
+        sent,
+    }
 }
 
-// The word that a move of kind 1 loads, once it is made.
-pub fn value_in(w: &[u64], at: usize, m: TileMove) -> u64
-    requires { ⌜ at + 84 ≤ length (now w) ⌝ }
-    ensures { λ r. ⌜ r ≡ valueOf m (tileAt (now (w .entry)) at) ⌝ }
+fn step_answer(refusal: u64, kind: u64, value: u64, sent: u64) -> StepAnswer
+    ensures { λ r. ⌜ r ≡ stepAnswer refusal kind value sent ⌝ }
 {
-    let k = tile_parts::kind_of(m.act);
-    if k == 1 {
-        if m.word < 8 {
-            let i = m.word as usize;
-            w[at + 4 + i]
-        } else {
-            0
-        }
+    if refusal == ACCEPTED {
+        accepted_answer(kind, value, sent)
     } else {
-        0
+        refused_answer(refusal)
     }
+}
+
+// One of a tile's four calls by tag: load, store, evict, else delivery to the tile.
+pub fn step_at(words: &mut [u64], at: usize, tag: u64, word: u64, value: u64) -> StepAnswer
+    requires { ⌜ at + TILE-WORDS ≤ length (now words) ⌝ }
+    ensures { λ r. ⌜ Steps (now (words .entry)) at (tileStepOn tag word value) r (now (words .exit)) ⌝ }
+{
+    let numbers = fields::read_numbers(words, at);
+    let made = tile_rules::step(numbers, tag, word, value);
+    let refusal = tile_rules::move_refusal(numbers, made);
+    moves::make_if_accepted(words, at, refusal, made);
+    let loaded = moves::loaded_value(words, at, made);
+    step_answer(
+        refusal,
+        tile_rules::move_kind(made),
+        loaded,
+        tile_rules::move_queues(made),
+    )
 }

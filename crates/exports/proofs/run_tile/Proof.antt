@@ -4,7 +4,7 @@ use Rattle.exports.proofs.run_tile.Statement.{statement}
 use Rattle.exports.proofs.run_tile.Tie as tie
 
 returns : tie.Need-returns
-returns c = called (c .before .before .before .before .before .before .before .before .before .before .args .out .now) (c .before .before .before .before .before .before .at-tile .ensures) (c .before .before .tell-answer .ensures)
+returns c = called (c .before .before .before .before .before .before .before .before .before .before .args .out .now) (c .before .before .before .before .before .before .at-tile .ensures) (c .before .before .report-answer .ensures)
 
 pub run-tile-spec : {M : Type 1} → statement M
 run-tile-spec =

@@ -6,7 +6,7 @@ use Rattle.job_exports.proofs.duzh_run_call.Tie as tie
 returns : tie.Need-returns
 returns c =
     let s = c .before .before .before .before .before .before .before .before .before .before .before .before .before .before .before .before .before .before in
-    ran (s .args .line) (s .args .number) (s .args .w .now) (s .args .text .now) (s .args .p) (s .args .out .now) (c .before .before .before .before .before .before .before .before .before .before .before .before .before .call-in .ensures) (c .before .before .before .before .before .before .before .before .before .before .before .run-call .ensures) (c .before .before .before .before .before .before .answer-lines .ensures) (c .before .before .tell-made .ensures)
+    ran (s .args .line) (s .args .number) (s .args .words .now) (s .args .text .now) (s .args .from) (s .args .out .now) (c .before .before .before .before .before .before .before .before .before .before .before .before .before .call-at .ensures) (c .before .before .before .before .before .before .before .before .before .before .before .run-call .ensures) (c .before .before .before .before .before .before .answer-lines .ensures) (c .before .before .report-made .ensures)
 
 pub duzh-run-call-spec : {M : Type 1} → statement M
 duzh-run-call-spec =

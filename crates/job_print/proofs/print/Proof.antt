@@ -4,25 +4,25 @@ use mathlib.Core.List.{List}
 use native.Mathlib.Omega.{arith}
 use lib.ListN.{length}
 use borrow.Author.Needs.{needs}
-use Rattle.job_rules.proofs.Turns.{piecesLeft, next-less, Stands, stands-first, stands-more, stands-last}
+use Rattle.job_rules.proofs.Pieces.{piecesLeft, next-less, Stands, stands-first, stands-more, stands-last}
 use Rattle.job_print.proofs.print.Statement.{statement}
 use Rattle.job_print.proofs.print.Tie as tie
 
 abbrev Inv-loop : tie.InvT-loop
-Inv-loop words₀ job out₀ r₀ words out r =
-    (length words ≡ length words₀) × (length out ≡ length out₀) × ((n : ℕ) (l : List ℕ) → n ≡ length out₀ → Stands job n l words₀ r₀ → Stands job n l words r)
+Inv-loop words₀ job buffer₀ run₀ words buffer run =
+    (length words ≡ length words₀) × (length buffer ≡ length buffer₀) × ((n : ℕ) (l : List ℕ) → n ≡ length buffer₀ → Stands job n l words₀ run₀ → Stands job n l words run)
 
 abbrev μ-loop : tie.MeasureT-loop
-μ-loop words₀ job out₀ r₀ words out r = piecesLeft job r
+μ-loop words₀ job buffer₀ run₀ words buffer run = piecesLeft job run
 
-part-requires : tie.Need-part-requires Inv-loop μ-loop
-part-requires c κs = omega (arith, c .before .before .before .before .before .first-piece .ensures .inside, c .before .before .before .before .before .first-piece .kept .1 .1 .0)
+print-bytes-requires : tie.Need-print-bytes-requires Inv-loop μ-loop
+print-bytes-requires c κs = omega (arith, c .before .before .before .before .before .first-piece .ensures .inside, c .before .before .before .before .before .first-piece .kept .1 .1 .0)
 
 loop-holds : tie.Need-loop-holds Inv-loop μ-loop
 loop-holds c = (refl, refl, λ n l e s. s)
 
-part-requires-2 : tie.Need-part-requires-2 Inv-loop μ-loop
-part-requires-2 c κs = omega (arith, c .before .before .before .before .before .next-piece .ensures .inside, c .before .before .before .before .before .next-piece .kept .1 .1 .0)
+print-bytes-requires-2 : tie.Need-print-bytes-requires-2 Inv-loop μ-loop
+print-bytes-requires-2 c κs = omega (arith, c .before .before .before .before .before .next-piece .ensures .inside, c .before .before .before .before .before .next-piece .kept .1 .1 .0)
 
 loop-less : tie.Need-loop-less Inv-loop μ-loop
 loop-less c = next-less _ _ _ _ _ (c .before .before .before .before .before .before .before .before .before .loop-test .taken) (c .before .before .before .before .before .before .next-piece .ensures .says)
@@ -51,10 +51,10 @@ print-spec =
     Inv-loop
     μ-loop
     (λ c κs. search needs)
-    part-requires
+    print-bytes-requires
     loop-holds
     (λ c κs. search needs)
-    part-requires-2
+    print-bytes-requires-2
     loop-less
     loop-again
     same-length

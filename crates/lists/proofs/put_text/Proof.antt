@@ -9,22 +9,22 @@ use Rattle.lists.proofs.put_text.Statement.{statement}
 use Rattle.lists.proofs.put_text.Tie as tie
 
 abbrev Inv-loop : tie.InvT-loop
-Inv-loop buf₀ at text i₀ buf i = (i ≤ length text) × (length buf ≡ length buf₀) × (over buf (at + i) (drop i text) ≡ over buf₀ at text)
+Inv-loop buffer₀ at text i₀ buffer i = (i ≤ length text) × (length buffer ≡ length buffer₀) × (over buffer (at + i) (drop i text) ≡ over buffer₀ at text)
 
 abbrev μ-loop : tie.MeasureT-loop
-μ-loop buf₀ at text i₀ buf i = length text - i
+μ-loop buffer₀ at text i₀ buffer i = length text - i
 
 loop-holds : tie.Need-loop-holds Inv-loop μ-loop
 loop-holds c = (omega arith, refl, simp add-zero)
 
-shared-slice-read-buf : tie.Need-shared-slice-read-buf Inv-loop μ-loop
-shared-slice-read-buf c = omega arith
+shared-slice-read-buffer : tie.Need-shared-slice-read-buffer Inv-loop μ-loop
+shared-slice-read-buffer c = omega arith
 
-add-buf : tie.Need-add-buf Inv-loop μ-loop
-add-buf c = omega arith
+add-buffer : tie.Need-add-buffer Inv-loop μ-loop
+add-buffer c = omega arith
 
-slice-write-buf : tie.Need-slice-write-buf Inv-loop μ-loop
-slice-write-buf c = omega arith
+slice-write-buffer : tie.Need-slice-write-buffer Inv-loop μ-loop
+slice-write-buffer c = omega arith
 
 add-i : tie.Need-add-i Inv-loop μ-loop
 add-i c = omega arith
@@ -51,9 +51,9 @@ put-text-spec =
     Inv-loop
     μ-loop
     loop-holds
-    shared-slice-read-buf
-    add-buf
-    slice-write-buf
+    shared-slice-read-buffer
+    add-buffer
+    slice-write-buffer
     add-i
     loop-less
     loop-again

@@ -1,0 +1,3 @@
+pub mod RoundRobin
+pub mod Takings
+pub mod Decisions

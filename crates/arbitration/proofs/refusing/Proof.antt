@@ -1,9 +1,0 @@
-use borrow.Author.Needs.{needs}
-use Rattle.arbitration.proofs.refusing.Statement.{statement}
-use Rattle.arbitration.proofs.refusing.Tie as tie
-
-returns : tie.Need-returns
-returns c = simp (c .serving .ensures, c .before .stop .ensures)
-
-pub refusing-spec : {M : Type 1} → statement M
-refusing-spec = tie.close (tie.spec (λ c κs. search needs) (λ c κs. search needs) returns)

@@ -1,4 +1,0 @@
-pub mod Laws
-pub mod Canonical
-pub mod RangeKept
-pub mod Round

@@ -1,5 +1,0 @@
-pub mod Encode
-pub mod Decode
-pub mod Same
-pub mod Sent
-pub mod Range

@@ -1,2 +1,0 @@
-// The front message of lent flits, read.
-pub mod reading;

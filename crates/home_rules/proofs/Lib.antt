@@ -1,0 +1,4 @@
+pub mod Spread
+pub mod Forwards
+pub mod Rules
+pub mod Sends

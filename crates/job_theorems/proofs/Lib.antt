@@ -1,0 +1,4 @@
+pub mod Listing
+pub mod Carried
+pub mod Rules
+pub mod Run

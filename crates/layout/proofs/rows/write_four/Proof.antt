@@ -1,0 +1,36 @@
+use Rattle.layout.proofs.Over.{four-stores}
+use lib.ListN.{length-set}
+use native.Mathlib.Omega.{arith}
+use borrow.Author.Needs.{needs}
+use Rattle.layout.proofs.rows.write_four.Statement.{statement}
+use Rattle.layout.proofs.rows.write_four.Tie as tie
+
+slice-write-words-2 : tie.Need-slice-write-words-2
+slice-write-words-2 c = simp length-set (omega arith)
+
+slice-write-words-3 : tie.Need-slice-write-words-3
+slice-write-words-3 c = simp length-set (omega arith)
+
+slice-write-words-4 : tie.Need-slice-write-words-4
+slice-write-words-4 c = simp length-set (omega arith)
+
+returns : tie.Need-returns
+returns c = four-stores _ _ _ _ _ _ (c .pre)
+
+pub write-four-spec : {M : Type 1} → statement M
+write-four-spec =
+    tie.close
+    (tie.spec
+    (λ c. search needs)
+    (λ c. search needs)
+    (λ c. search needs)
+    (λ c. search needs)
+    slice-write-words-2
+    (λ c. search needs)
+    (λ c. search needs)
+    slice-write-words-3
+    (λ c. search needs)
+    (λ c. search needs)
+    slice-write-words-4
+    (λ c. search needs)
+    returns)

@@ -1,7 +1,0 @@
--- 01's beats P1 to P10 hold. Assumes nothing.
-use Rattle.protocol.proofs.Beats.{beats-hold}
-use Rattle.round_trips.proofs.Examples.{p10}
-use Rattle.message_round.specs.Beats.{P1-to-P10}
-
-pub beats : P1-to-P10
-beats = record { p1-to-p9 = beats-hold; p10 = p10 .0; p10-clear = p10 .1 }

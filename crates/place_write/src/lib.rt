@@ -1,2 +1,0 @@
-// A message written at a place of a lent buffer.
-pub mod writing;

@@ -1,3 +1,0 @@
-pub mod Posted
-pub mod Finished
-pub mod Commits

@@ -1,1 +1,0 @@
-// The round trips: what is read and written again, and what is written and read back (specs/Rounds). `flits` has the calls.

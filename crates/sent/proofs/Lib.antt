@@ -1,3 +1,0 @@
-pub mod Rising
-pub mod Last
-pub mod Sends

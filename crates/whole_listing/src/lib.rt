@@ -1,1 +1,0 @@
-// The theorems over the listing of a whole job stand in proofs/, their statements in specs/.

@@ -1,1 +1,0 @@
-// The theorems over all pieces of a job's run stand in proofs/, their statements in specs/.
