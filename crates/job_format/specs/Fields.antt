@@ -1,12 +1,13 @@
 -- The tags of a job's fields and the tests on one field (01, 'Jobs').
 use Prim.Native.Nat.{ℕ, _+_, _%_}
 use mathlib.Core.Bool.{Bool, cond, true, _&&_, _||_}
-use mathlib.Core.List.{List}
+use mathlib.Core.List.{List, [], _∷_}
 use lib.Dec.{eqb, ltb, leb}
 use lib.ListN.{length}
 use Rattle.numbers.specs.Limits.{MOST-TILES, LINE-BYTES}
 use Rattle.numbers.specs.Refusals.{ACCEPTED, JOB-CUT, JOB-TAG, JOB-LENGTH, JOB-PLACE, JOB-VALUE}
-use Rattle.numbers.specs.Tags.{TAG-TILES, TAG-LINE, TAG-MEMORY, TAG-LOAD, TAG-STORE, TAG-EVICT, TAG-TO-TILE, TAG-FROM-TILE, TAG-HOME-EVICTION}
+use Rattle.numbers.specs.Tags.{TAG-TILES, TAG-LINE, TAG-MEMORY, TAG-LOAD, TAG-HOME-EVICTION}
+use Rattle.protocol.specs.Calls.{Arguments, noArgument, tileOnly, tileAndWord, tileWordAndValue, CallRow, callTable}
 use Rattle.job_format.specs.Places.{HEAD-BYTES, TILE-COUNT-BYTES, LINE-ADDRESS-BYTES, MEMORY-BYTES, TILE-NUMBER-BYTES, LOAD-BYTES, STORE-BYTES, HEADER-FIELDS}
 use Rattle.job_format.specs.Bytes.{bigAt, tagAt, lengthAt, nextAt}
 
@@ -16,18 +17,23 @@ use Rattle.job_format.specs.Bytes.{bigAt, tagAt, lengthAt, nextAt}
 unfoldable pub isTag : ℕ → Bool
 isTag tag = (leb TAG-TILES tag && leb tag TAG-MEMORY) || (leb TAG-LOAD tag && leb tag TAG-HOME-EVICTION)
 
--- how long the value of each is
+-- how long a call's value is: by what the call carries, in its row of the calls' table; 0 of a tag that the table does not have
+abbrev pub argumentBytes : Arguments → ℕ
+argumentBytes noArgument = 0
+argumentBytes tileOnly = TILE-NUMBER-BYTES
+argumentBytes tileAndWord = LOAD-BYTES
+argumentBytes tileWordAndValue = STORE-BYTES
+
+abbrev pub callBytes : List CallRow → ℕ → ℕ
+callBytes [] tag = 0
+callBytes (r ∷ rs) tag = cond (eqb tag (r .tag)) (argumentBytes (r .arguments)) (callBytes rs tag)
+
+-- how long the value of each tag is
 unfoldable pub valueLength : ℕ → ℕ
 valueLength tag =
     cond (eqb tag TAG-TILES) TILE-COUNT-BYTES
     (cond (eqb tag TAG-LINE) LINE-ADDRESS-BYTES
-    (cond (eqb tag TAG-MEMORY) MEMORY-BYTES
-    (cond (eqb tag TAG-LOAD) LOAD-BYTES
-    (cond (eqb tag TAG-STORE) STORE-BYTES
-    (cond (eqb tag TAG-EVICT) TILE-NUMBER-BYTES
-    (cond (eqb tag TAG-TO-TILE) TILE-NUMBER-BYTES
-    (cond (eqb tag TAG-FROM-TILE) TILE-NUMBER-BYTES
-    0)))))))
+    (cond (eqb tag TAG-MEMORY) MEMORY-BYTES (callBytes callTable tag)))
 
 -- ---- the tests on the field at a place, `before` fields standing before it
 

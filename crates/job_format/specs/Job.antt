@@ -4,8 +4,8 @@ use mathlib.Core.Bool.{cond}
 use mathlib.Core.List.{List, [], _∷_}
 use lib.Dec.{ltb}
 use lib.ListN.{length}
-use Rattle.numbers.specs.Limits.{LINE-WORDS}
-use Rattle.job_format.specs.Places.{HEAD-BYTES, TILE-COUNT-AT, TILE-COUNT-BYTES, LINE-ADDRESS-AT, LINE-ADDRESS-BYTES, MEMORY-AT, WORD-BYTES, HEADER-BYTES}
+use Rattle.numbers.specs.Limits.{LINE-WORDS, WORD-BYTES}
+use Rattle.job_format.specs.Places.{HEAD-BYTES, TILE-COUNT-AT, TILE-COUNT-BYTES, LINE-ADDRESS-AT, LINE-ADDRESS-BYTES, MEMORY-AT, HEADER-BYTES}
 use Rattle.job_format.specs.Places.{TILE-NUMBER-AT, TILE-NUMBER-BYTES, WORD-NUMBER-AT, WORD-NUMBER-BYTES, STORED-WORD-AT}
 use Rattle.job_format.specs.Bytes.{bigAt, tagAt, nextAt}
 use Rattle.job_format.specs.Fields.{valueLength}

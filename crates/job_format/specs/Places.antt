@@ -1,5 +1,6 @@
 -- Places and sizes in a job (01, 'Jobs'), in bytes.
 use Prim.Native.Nat.{ℕ, _+_}
+use Rattle.numbers.specs.Limits.{WORD-BYTES}
 
 -- ---- a field: a tag byte, a length of two bytes, the value
 
@@ -39,10 +40,6 @@ WORD-NUMBER-BYTES = 1
 
 abbrev pub STORED-WORD-AT : ℕ
 STORED-WORD-AT = 2
-
--- a stored word, or one of memory
-abbrev pub WORD-BYTES : ℕ
-WORD-BYTES = 8
 
 abbrev pub LOAD-BYTES : ℕ
 LOAD-BYTES = TILE-NUMBER-BYTES + WORD-NUMBER-BYTES

@@ -2,7 +2,7 @@
 ghost use mathlib.Core.Path.{_≡_};
 ghost use Prim.Native.Nat.{_≤_};
 ghost use lib.ListN.{length};
-ghost use Rattle.job_format.specs.Places.{WORD-BYTES};
+ghost use Rattle.numbers.specs.Limits.{WORD-BYTES};
 ghost use Rattle.job_format.specs.Job.{argumentAt, jobCallAt};
 use crate::bytes::big_at;
 use crate::bytes::byte_at;

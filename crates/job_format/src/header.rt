@@ -9,7 +9,6 @@ use crate::places::TILE_COUNT_AT;
 use crate::places::TILE_COUNT_BYTES;
 use crate::places::WORD_BYTES;
 use numbers::limits::LINE_LENGTH;
-use numbers::limits::LINE_WORDS;
 
 pub fn tile_count(job: &[u8]) -> u64
     ensures { λ r. ⌜ r ≡ tileCountOf (now (job .entry)) ⌝ }
@@ -27,7 +26,7 @@ pub fn line_address(job: &[u8]) -> u64
 pub fn memory_word(job: &[u8], word: usize) -> u64
     ensures { λ r. ⌜ r ≡ memoryWordOf (now (job .entry)) word ⌝ }
 {
-    if word < LINE_WORDS as usize {
+    if word < LINE_LENGTH {
         big_at(job, MEMORY_AT + word * WORD_BYTES, WORD_BYTES)
     } else {
         0

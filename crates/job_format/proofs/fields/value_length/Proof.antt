@@ -1,4 +1,6 @@
 use mathlib.Core.Path.{_≡_, refl, ap, sym, _∙_}
+use Prim.Native.Nat.{ℕ}
+use mathlib.Core.Bool.{Bool, cond, true, false}
 use borrow.Author.Tests.{ne-eqb}
 use Rattle.job_format.specs.Fields.{valueLength}
 use Rattle.job_format.proofs.fields.value_length.Statement.{statement}
@@ -10,9 +12,14 @@ lengths :
 unfolding valueLength
 lengths = (refl, refl, refl, refl, refl, refl, refl, refl)
 
+-- the calls that carry nothing
+no-bytes : (b : Bool) → _≡_ {A = ℕ} (cond b 0 0) 0
+no-bytes true = refl
+no-bytes false = refl
+
 no-value : tie.Need-returns-9
 unfolding valueLength
-no-value c = simp (ne-eqb _ _ (c .match .rest .1), ne-eqb _ _ (c .match .rest .0 .1), ne-eqb _ _ (c .match .rest .0 .0 .1), ne-eqb _ _ (c .match .rest .0 .0 .0 .1), ne-eqb _ _ (c .match .rest .0 .0 .0 .0 .1), ne-eqb _ _ (c .match .rest .0 .0 .0 .0 .0 .1), ne-eqb _ _ (c .match .rest .0 .0 .0 .0 .0 .0 .1), ne-eqb _ _ (c .match .rest .0 .0 .0 .0 .0 .0 .0 .1))
+no-value c = simp (no-bytes, ne-eqb _ _ (c .match .rest .1), ne-eqb _ _ (c .match .rest .0 .1), ne-eqb _ _ (c .match .rest .0 .0 .1), ne-eqb _ _ (c .match .rest .0 .0 .0 .1), ne-eqb _ _ (c .match .rest .0 .0 .0 .0 .1), ne-eqb _ _ (c .match .rest .0 .0 .0 .0 .0 .1), ne-eqb _ _ (c .match .rest .0 .0 .0 .0 .0 .0 .1), ne-eqb _ _ (c .match .rest .0 .0 .0 .0 .0 .0 .0 .1))
 
 pub value-length-spec : {M : Type 1} → statement M
 value-length-spec =
