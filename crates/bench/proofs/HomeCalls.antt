@@ -27,7 +27,7 @@ use Rattle.layout.specs.Decode.{decTiles, decoded, benchFrom, decHome, decLine,
 use Rattle.layout.proofs.Canonical.{home-canonical}
 use Rattle.layout.specs.Queues.{hasRoom, popRow}
 use Rattle.tile_rules.specs.Steps.{tileBlock}
-use Rattle.tile_rules.proofs.Rules.{request-kind, reply-kind, rest-queue}
+use Rattle.tile_rules.proofs.Rules.{rest-queue}
 use Rattle.home_rules.specs.declared.moves.HomeStep.{HomeStep}
 use Rattle.home_rules.specs.declared.moves.HomeNumbers.{HomeNumbers}
 use Rattle.home_rules.specs.Moves as moves
@@ -37,7 +37,7 @@ use Rattle.home_rules.specs.Results.{HomeResult, spread, encStep, encFront, Sen
 use Rattle.home_rules.proofs.Rules.{first-row, take-is, accept-is, step-is, ack-is, evict-is}
 use Rattle.home_rules.proofs.Spread.{take-spread, accept-spread, step-spread, ack-spread, evict-spread}
 use Rattle.home_rules.proofs.Sends.{take-sends, accept-sends, step-sends, ack-sends, evict-sends}
-use Rattle.layout.proofs.Round.{line-read, home-read}
+use Rattle.layout.proofs.Round.{line-read, home-read, request-typed, reply-typed}
 use Rattle.protocol.specs.declared.Answer.{Answer}
 use Rattle.calls.specs.Calls.{wellFormed, stepOn, wordsAfter}
 use Rattle.protocol.specs.Calls.{homeCalls, callFrom}
@@ -194,11 +194,11 @@ module _ (l : List ℕ) (h : wellFormed l ≡ true) where
   -- a tile without the front of a queue
   pop1 : (x : Tile) → popped1 (encTile x) ≡ encTile (popNoc1 x)
   unfolding popped1 encTile popNoc1
-  pop1 (tileOf c p q1 q2 q3) = ap (λ (z : Pair). tileBlock (encTile (tileOf c p q1 q2 q3) .head) z (encQueue encForward q2) (encQueue encReply q3)) (rest-queue encRequest request-kind q1)
+  pop1 (tileOf c p q1 q2 q3) = ap (λ (z : Pair). tileBlock (encTile (tileOf c p q1 q2 q3) .head) z (encQueue encForward q2) (encQueue encReply q3)) (rest-queue encRequest request-typed q1)
 
   pop3 : (x : Tile) → popped3 (encTile x) ≡ encTile (popNoc3 x)
   unfolding popped3 encTile popNoc3
-  pop3 (tileOf c p q1 q2 q3) = ap (λ (z : Pair). tileBlock (encTile (tileOf c p q1 q2 q3) .head) (encQueue encRequest q1) (encQueue encForward q2) z) (rest-queue encReply reply-kind q3)
+  pop3 (tileOf c p q1 q2 q3) = ap (λ (z : Pair). tileBlock (encTile (tileOf c p q1 q2 q3) .head) (encQueue encRequest q1) (encQueue encForward q2) z) (rest-queue encReply reply-typed q3)
 
   front1 : (x : Tile) → encTile x .noc1 .a ≡ encFront encRequest (front (noc1 x))
   unfolding encTile noc1
@@ -386,11 +386,11 @@ module _ (l : List ℕ) (h : wellFormed l ≡ true) (a : Answer) (m : List ℕ) 
   abbrev X : HomeNumbers
   X = numbers.numbersIn (homeBlockAt l)
 
-  -- a turn that refuses
+  -- a decision that refuses
   refuses : (k : ℕ) (c : Call) → (k ≡ 0 → ⊥) → Meets l (stepOn l c) (refusal k) l → Serves l tiles (refusing X k) a m → Meets l (stepOn l c) a m
   unfolding answering numbers.moveApplied moves.refusedMove
   refuses k c wrong by made =
-      let w = made .stops wrong in
+      let w = made .refusing wrong in
       record { answer = w .0 ∙ by .answer; words = w .1 ∙ by .words }
 
   -- taking: of tile t, which the round robin chose

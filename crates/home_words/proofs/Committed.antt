@@ -35,23 +35,23 @@ use Rattle.calls.proofs.Laid.{Laid}
 use Rattle.calls.proofs.Decoded.{found}
 use Rattle.calls.proofs.Meets.{Meets}
 use Rattle.home_words.proofs.Sending.{allRoom}
-use Rattle.home_words.proofs.Finished.{none-told, stopped-by, no-room, finished}
+use Rattle.home_words.proofs.Finished.{none-told, refused-by, no-room, finished}
 
 module _ (l k : List ℕ) (n v : ℕ) (s : HomeStep) (a : Answer) (m : List ℕ) where
-  pub is-stopped : (s .refusal ≡ 0 → ⊥) → a ≡ refusal (s .refusal) → m ≡ l → Committed l k n v s a m
-  is-stopped wrong e w = record { stops = λ _. (e, w); no-room = λ z. absurd (wrong z); done = λ z. absurd (wrong z) }
+  pub is-refused : (s .refusal ≡ 0 → ⊥) → a ≡ refusal (s .refusal) → m ≡ l → Committed l k n v s a m
+  is-refused wrong e w = record { refusing = λ _. (e, w); no-room = λ z. absurd (wrong z); done = λ z. absurd (wrong z) }
 
   pub is-full : s .refusal ≡ 0 → hasRooms true l 74 0 (s .to) n ≡ false → a ≡ refusal 9 → m ≡ l → Committed l k n v s a m
-  is-full z f e w = record { stops = λ wrong. absurd (wrong z); no-room = λ _ _. (e, w); done = λ _ t. absurd (false≢true (sym f ∙ t)) }
+  is-full z f e w = record { refusing = λ wrong. absurd (wrong z); no-room = λ _ _. (e, w); done = λ _ t. absurd (false≢true (sym f ∙ t)) }
 
   pub is-done : s .refusal ≡ 0 → hasRooms true l 74 0 (s .to) n ≡ true → a ≡ homeAnswer s v → Finishes k n s m → Committed l k n v s a m
-  is-done z t e w = record { stops = λ wrong. absurd (wrong z); no-room = λ _ f. absurd (false≢true (sym f ∙ t)); done = λ _ _. (e, w) }
+  is-done z t e w = record { refusing = λ wrong. absurd (wrong z); no-room = λ _ f. absurd (false≢true (sym f ∙ t)); done = λ _ _. (e, w) }
 
 -- the same for a move, whatever block and words it is applied to
 module _ (l k : List ℕ) (n v : ℕ) (x : HomeBlock) (ws : List ℕ) (q : HomeMove) (a : Answer) (m : List ℕ) where
-  pub move-stopped : (q .refusal ≡ 0 → ⊥) → a ≡ refusal (q .refusal) → m ≡ l → Committed l k n v (moveApplied x ws q) a m
+  pub move-refused : (q .refusal ≡ 0 → ⊥) → a ≡ refusal (q .refusal) → m ≡ l → Committed l k n v (moveApplied x ws q) a m
   unfolding moveApplied
-  move-stopped wrong e w = is-stopped l k n v (moveApplied x ws q) a m wrong e w
+  move-refused wrong e w = is-refused l k n v (moveApplied x ws q) a m wrong e w
 
   pub move-full : q .refusal ≡ 0 → hasRooms true l 74 0 (q .to) n ≡ false → a ≡ refusal 9 → m ≡ l → Committed l k n v (moveApplied x ws q) a m
   unfolding moveApplied
@@ -61,7 +61,7 @@ module _ (l k : List ℕ) (n v : ℕ) (x : HomeBlock) (ws : List ℕ) (q : HomeM
   unfolding moveApplied
   move-done z t e w = is-done l k n v (moveApplied x ws q) a m z t e w
 
--- what a move tells tiles is read in the words in which it is made
+-- what a move sends to tiles is read in the words in which it is made
 module _ (l k m : List ℕ) (n : ℕ) (ws : List ℕ) (q : HomeMove) (f : Row) where
   same-line : (o : ℕ) (y : HomeBlock) → forwardOf q (outgoingPut o y) ≡ forwardOf q y
   unfolding outgoingPut withOutgoing forwardOf
@@ -103,7 +103,7 @@ pub popped-some : (l k : List ℕ) (at : ℕ) → (at ≡ 0 → ⊥) → k ≡ o
 unfolding popped
 popped-some l k at h e = e ∙ rw (ne-eqb at 0 h)
 
--- a step that tells no tile has room
+-- a step that sends to no tile has room
 rooms-none : (a : Bool) (l : List ℕ) (at i j : ℕ) → hasRooms a l at i 0 j ≡ a
 unfolding hasRooms hasRoomFor
 rooms-none a l at i ℕ.zero = refl
@@ -113,7 +113,7 @@ rooms-none a l at i (suc j) = rw (has-none i, and-true a) (rooms-none a l (at + 
 module _ (l k : List ℕ) (n : ℕ) (ws : List ℕ) (r : Row) (a : Answer) where
   pub memory-full : hasRoom (pairAt l 50) ≡ false → a ≡ refusal 9 → Committed l l n 0 (memoryAnswers (homeBlockAt l) ws r) a l
   unfolding memoryAnswers homeBlockAt hasRoom refusedStep
-  memory-full e f = rw e (is-stopped l l n 0 (refusedStep (homeBlockAt l) 9) a l (λ z. omega arith) f refl)
+  memory-full e f = rw e (is-refused l l n 0 (refusedStep (homeBlockAt l) 9) a l (λ z. omega arith) f refl)
 
   pub memory-done : hasRoom (pairAt l 50) ≡ true → PutsHome l (memoryStepped ws r) k → a ≡ record { refusal = 0; kind = 3; value = 0; sent = 5; tiles = 0 } → Committed l l n 0 (memoryAnswers (homeBlockAt l) ws r) a k
   unfolding memoryAnswers homeBlockAt hasRoom
@@ -125,7 +125,7 @@ module _ (l k : List ℕ) (n : ℕ) (ws : List ℕ) (r : Row) (a : Answer) where
 module _ (l m : List ℕ) (n : ℕ) (a : Answer) where
   pub memory-empty : getD l 26 0 ≡ 0 → a ≡ refusal 7 → Committed l l n 0 (memoryStep (homeBlockAt l)) a l
   unfolding memoryStep homeBlockAt pairAt rowAt refusedStep
-  memory-empty e f = rw (eq-eqb (getD l 26 0) 0 e) (is-stopped l l n 0 (refusedStep (homeBlockAt l) 7) a l (λ z. omega arith) f refl)
+  memory-empty e f = rw (eq-eqb (getD l 26 0) 0 e) (is-refused l l n 0 (refusedStep (homeBlockAt l) 7) a l (λ z. omega arith) f refl)
 
   pub memory-reads : (d r : Row) → getD l 26 0 ≡ 19 → d ≡ rowAt l 14 → r ≡ row 24 0 0 0 (d .words) → Committed l l n 0 (memoryAnswers (homeBlockAt l) (d .words) r) a m → Committed l l n 0 (memoryStep (homeBlockAt l)) a m
   unfolding memoryStep homeBlockAt pairAt rowAt
@@ -153,8 +153,8 @@ module _ (l k : List ℕ) (c : Call) (v : ℕ) (s : HomeStep) (a : Answer) (m : 
 
       go : (z : Bool) → eqb (s .refusal) 0 ≡ z → (b : Bool) → hasRooms true l 74 0 (s .to) n ≡ b → Meets l (spread v R ts) a m
       go false ez b eb =
-          let w = made .stops (eqb-false (s .refusal) 0 ez) in
-          rw (stopped-by n small B s v ts cnt R snd is (eqb-false (s .refusal) 0 ez)) (record { answer = w .0; words = w .1 })
+          let w = made .refusing (eqb-false (s .refusal) 0 ez) in
+          rw (refused-by n small B s v ts cnt R snd is (eqb-false (s .refusal) 0 ez)) (record { answer = w .0; words = w .1 })
       go true ez false eb =
           let w = made .no-room (eqb-true (s .refusal) 0 ez) eb in
           rw (no-room n small B s v ts cnt R snd is (eqb-true (s .refusal) 0 ez) (sym rm ∙ eb)) (record { answer = w .0; words = w .1 })

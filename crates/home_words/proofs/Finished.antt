@@ -19,7 +19,7 @@ use Rattle.layout.specs.Encode.{encForward, encHome, encode}
 use Rattle.protocol.specs.Answers.{sentOn, sentTo}
 use Rattle.home_rules.specs.declared.moves.HomeStep.{HomeStep}
 use Rattle.home_rules.specs.Steps.{refusedStep, forwardStep}
-use Rattle.home_rules.specs.Results.{HomeResult, went, spread, forwardAll, forwardTo, forwardOne, encStep, targets, forwardRow, forwardsTo, Sends, refuses, silent, tells, files, answers}
+use Rattle.home_rules.specs.Results.{HomeResult, went, spread, forwardAll, forwardTo, forwardOne, encStep, targets, forwardRow, forwardsTo, Sends, refuses, silent, sendsForwards, sendsToMemory, sendsFromMemory}
 use Rattle.home_rules.proofs.Forwards.{add-small, told-targets, told-step}
 use Rattle.home_words.specs.Forwards.{forwardPutAt, forwardPutAll}
 use Rattle.calls.proofs.Laid.{Laid, write-home, laid-encode}
@@ -67,22 +67,22 @@ pub record Finished (s : HomeStep) (v : ℕ) (R : HomeResult) (ts : List Tile) (
   pub to : sentTo ms ≡ s .to
 
 module _ (n : ℕ) (small : n ≤ 64) (B : HomeBlock) (s : HomeStep) (v : ℕ) (ts : List Tile) (count : length ts ≡ n) where
-  pub stopped-by : (R : HomeResult) → Sends n R → s ≡ encStep n B R → (s .refusal ≡ 0 → ⊥) → spread v R ts ≡ refused (s .refusal)
+  pub refused-by : (R : HomeResult) → Sends n R → s ≡ encStep n B R → (s .refusal ≡ 0 → ⊥) → spread v R ts ≡ refused (s .refusal)
   unfolding spread encStep refusedStep kindOf sentOn targets forwardRow
-  stopped-by R (refuses k p) e wrong = ap (λ (x : HomeStep). refused (x .refusal)) (sym e)
-  stopped-by R silent e wrong = absurd (wrong (ap (λ (x : HomeStep). x .refusal) e))
-  stopped-by R (tells m f p b q) e wrong = absurd (wrong (ap (λ (x : HomeStep). x .refusal) e))
-  stopped-by R files e wrong = absurd (wrong (ap (λ (x : HomeStep). x .refusal) e))
-  stopped-by R answers e wrong = absurd (wrong (ap (λ (x : HomeStep). x .refusal) e))
+  refused-by R (refuses k p) e wrong = ap (λ (x : HomeStep). refused (x .refusal)) (sym e)
+  refused-by R silent e wrong = absurd (wrong (ap (λ (x : HomeStep). x .refusal) e))
+  refused-by R (sendsForwards m f p b q) e wrong = absurd (wrong (ap (λ (x : HomeStep). x .refusal) e))
+  refused-by R sendsToMemory e wrong = absurd (wrong (ap (λ (x : HomeStep). x .refusal) e))
+  refused-by R sendsFromMemory e wrong = absurd (wrong (ap (λ (x : HomeStep). x .refusal) e))
 
   -- 9: one of the tiles has no room
   pub no-room : (R : HomeResult) → Sends n R → s ≡ encStep n B R → s .refusal ≡ 0 → allRoom ts 0 (s .to) n ≡ false → spread v R ts ≡ refused 9
   unfolding spread encStep refusedStep kindOf sentOn targets forwardRow outcome forwardStep
   no-room R (refuses k p) e zero full = let q : k ≡ 0 = sym (ap (λ (x : HomeStep). x .refusal) e) ∙ zero in absurd (omega arith)
   no-room R silent e zero full = absurd (false≢true (sym full ∙ ap (λ (x : HomeStep). allRoom ts 0 (x .to) n) e ∙ none-room ts 0 n))
-  no-room R files e zero full = absurd (false≢true (sym full ∙ ap (λ (x : HomeStep). allRoom ts 0 (x .to) n) e ∙ none-room ts 0 n))
-  no-room R answers e zero full = absurd (false≢true (sym full ∙ ap (λ (x : HomeStep). allRoom ts 0 (x .to) n) e ∙ none-room ts 0 n))
-  no-room R (tells {h = h} {l = l} {k = k} {mem = mem} {out = out} {back = back} m f p b {ms = ms} q) e zero full =
+  no-room R sendsToMemory e zero full = absurd (false≢true (sym full ∙ ap (λ (x : HomeStep). allRoom ts 0 (x .to) n) e ∙ none-room ts 0 n))
+  no-room R sendsFromMemory e zero full = absurd (false≢true (sym full ∙ ap (λ (x : HomeStep). allRoom ts 0 (x .to) n) e ∙ none-room ts 0 n))
+  no-room R (sendsForwards {h = h} {l = l} {k = k} {mem = mem} {out = out} {back = back} m f p b {ms = ms} q) e zero full =
       let t : s ≡ forwardStep (encHome n h l k mem out back) m (encForward f) = e ∙ ap (λ (z : List Message). encStep n B (went h l k mem out back z)) q ∙ told-step f n m small p b B h l k mem out back in
       ap (outcome (kindOf ms) v ms) (ap (λ (z : List Message). forwardAll z (some (benchOf h l k mem out back ts))) q ∙ forward-told f n m h l k mem out back ts
       ∙ ap (Option·map (λ (us : List Tile). benchOf h l k mem out back us)) (not-told m f n 0 ts (sym (ap (λ (x : HomeStep). allRoom ts 0 (x .to) n) t) ∙ full)))
@@ -100,7 +100,7 @@ module _ (n : ℕ) (small : n ≤ 64) (B : HomeBlock) (s : HomeStep) (v : ℕ) (
     encoded-as us m h t k mem out back c e la =
         laid-encode m h t k mem out back us r (subst (λ (H : HomeBlock). Laid m H us r) (e ∙ ap (λ (z : ℕ). encHome z h t k mem out back) (sym c)) la)
 
-    -- a step that tells no tile
+    -- a step that sends to no tile
     quietly : (ms : List Message) (h : Home) (t k : ℕ) (mem : Words) (out : Queue ToMemory) (back : Queue FromMemory) → forwardAll ms (some (benchOf h t k mem out back ts)) ≡ some (benchOf h t k mem out back ts) →
         s ≡ encStep n B (went h t k mem out back ms) → targets ms ≡ 0 → sentTo ms ≡ 0 → Finished s v (went h t k mem out back ms) ts r after
     unfolding spread encStep outcome
@@ -141,6 +141,6 @@ module _ (n : ℕ) (small : n ≤ 64) (B : HomeBlock) (s : HomeStep) (v : ℕ) (
     unfolding encStep refusedStep forwardAll forwardTo forwardOne targets sentTo sentOn
     finished R (refuses k p) e zero rm = let q : k ≡ 0 = sym (ap (λ (x : HomeStep). x .refusal) e) ∙ zero in absurd (omega arith)
     finished R (silent {h = h} {l = t} {k = k} {mem = mem} {out = out} {back = back}) e zero rm = quietly [] h t k mem out back refl e refl refl
-    finished R (tells {h = h} {l = t} {k = k} {mem = mem} {out = out} {back = back} m f p b {ms = ms} q) e zero rm = telling m f p b ms q h t k mem out back e rm
-    finished R (files {h = h} {l = t} {k = k} {mem = mem} {out = out} {back = back} {m = m}) e zero rm = quietly (toMemory m ∷ []) h t k mem out back refl e refl refl
-    finished R (answers {h = h} {l = t} {k = k} {mem = mem} {out = out} {back = back} {m = m}) e zero rm = quietly (fromMemory m ∷ []) h t k mem out back refl e refl refl
+    finished R (sendsForwards {h = h} {l = t} {k = k} {mem = mem} {out = out} {back = back} m f p b {ms = ms} q) e zero rm = telling m f p b ms q h t k mem out back e rm
+    finished R (sendsToMemory {h = h} {l = t} {k = k} {mem = mem} {out = out} {back = back} {m = m}) e zero rm = quietly (toMemory m ∷ []) h t k mem out back refl e refl refl
+    finished R (sendsFromMemory {h = h} {l = t} {k = k} {mem = mem} {out = out} {back = back} {m = m}) e zero rm = quietly (fromMemory m ∷ []) h t k mem out back refl e refl refl

@@ -1,4 +1,4 @@
--- A tile told in place, and where the rooms of NoC2 stand. Assumes nothing.
+-- A message sent to a tile in place, and where the rooms of NoC2 stand. Assumes nothing.
 use Prim.Native.Nat.{ℕ, _+_, _-_, _≤_}
 use mathlib.Core.Path.{_≡_, refl, ap, sym, _∙_}
 use mathlib.Core.List.{List, _++_}
@@ -34,12 +34,12 @@ pop-full q f = go (eqb (q .b .n0) 0)
     go true = record { first = refl; second = f .second }
     go false = record { first = f .second; second = refl }
 
--- a tile told in place
+-- a message sent to a tile in place
 pub told-over : (l k : List ℕ) (at : ℕ) (m : Row) → at + 84 ≤ length l → PairFull (pushRow (pairAt l (at + 36)) m) → k ≡ over l (at + 36) (pairWords (pushRow (pairAt l (at + 36)) m)) → k ≡ over l at (tileBlockWords (forwardPut m (tileBlockAt l at)))
 unfolding forwardPut tileBlockAt
 told-over l k at m h n e = put-noc2 l k at h (pushRow (pairAt l (at + 36)) m) n e .words
 
--- the word that tells whether a tile's NoC2 has room
+-- the word that says whether a tile's NoC2 has room
 pub room-word : (l : List ℕ) (at : ℕ) → eqb (getD l (at + 48) 0) 0 ≡ hasRoom (tileBlockAt l at .noc2)
 unfolding tileBlockAt pairAt rowAt hasRoom
 room-word l at =

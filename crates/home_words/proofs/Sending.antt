@@ -24,7 +24,7 @@ use Rattle.layout.specs.Encode.{encRequest, encForward, encReply, encQueue, enc
 use Rattle.layout.proofs.Canonical.{both-true}
 use Rattle.layout.specs.Queues.{hasRoom, pushRow}
 use Rattle.tile_rules.specs.Steps.{tileBlock}
-use Rattle.tile_rules.proofs.Rules.{forward-kind}
+use Rattle.layout.proofs.Round.{forward-typed}
 use Rattle.home_rules.specs.Results.{forwardOne, forwardTo, forwardAll, forwardsTo}
 use Rattle.home_words.specs.Forwards.{hasRoomFor, hasRooms, forwardPut, forwardPutAt, forwardPutAll}
 use Rattle.home_words.proofs.Places.{push-full}
@@ -86,8 +86,8 @@ module _ (H : HomeBlock) (r : List ℕ) (to : ℕ) where
 push-room : (q : Queue Forward) (f : Forward) → hasRoom (encQueue encForward q) ≡ true → (p : Queue Forward) × (rules.push f q ≡ some p) × (pushRow (encQueue encForward q) (encForward f) ≡ encQueue encForward p)
 unfolding hasRoom pushRow encQueue rules.push
 push-room empty f h = (one f, refl, refl)
-push-room (one a) f h = (two a f, refl, rw (forward-kind a))
-push-room (two a b) f h = absurd (false≢true (sym (forward-kind b) ∙ h))
+push-room (one a) f h = (two a f, refl, rw (forward-typed a))
+push-room (two a b) f h = absurd (false≢true (sym (forward-typed b) ∙ h))
 
 push-none : (q : Queue Forward) (f : Forward) → hasRoom (encQueue encForward q) ≡ false → rules.push f q ≡ none
 unfolding hasRoom encQueue rules.push
@@ -114,7 +114,7 @@ room-kept to (suc j) i t ts y h =
     ap (λ (x : Tile). cond (has to i) (hasRoom (encTile x .noc2)) true && allRoom (set ts t y) (suc i) to j) (getD-set-other ts t i y rules.freshTile other)
     ∙ ap (λ (z : Bool). cond (has to i) (hasRoom (encTile (tileAt ts i) .noc2)) true && z) (room-kept to j (suc i) t ts y (omega arith))
 
--- nothing is told where one of the tiles has no room
+-- nothing is sent where one of the tiles has no room
 pub not-told : (to : ℕ) (f : Forward) (j i : ℕ) (ts : List Tile) → allRoom ts i to j ≡ false → tellTiles to f i j ts ≡ none
 unfolding allRoom tellTiles andThen
 not-told to f ℕ.zero i ts h = absurd (false≢true (sym h))
@@ -132,7 +132,7 @@ not-told to f (suc j) i ts h = go (has to i) h (λ us. not-told to f j (suc i) u
     go true n ih = inner (hasRoom (encTile (tileAt ts i) .noc2)) refl n ih
     go false n ih = ih ts n
 
--- a tile that is told something still has rows of eight words
+-- a tile that is sent something still has rows of eight words
 told-full : (m : Row) (x : TileBlock) → length (m .words) ≡ 8 → TileFull x → TileFull (forwardPut m x)
 unfolding forwardPut
 told-full m x n f = record { head-full = f .head-full; noc1-full = f .noc1-full; noc2-full = push-full (x .noc2) m (f .noc2-full) n; noc3-full = f .noc3-full }

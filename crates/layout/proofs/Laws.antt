@@ -1,4 +1,4 @@
--- Laws of the codec. Assumes nothing.
+-- Laws of the encoding. Assumes nothing.
 use Prim.Native.Nat.{ℕ}
 use mathlib.Core.Path.{_≡_, refl, ap, sym, _∙_}
 use mathlib.Core.Bool.{Bool, cond, true, false, _&&_, and-true}

@@ -52,9 +52,9 @@ over-same l m i n vs e p q =
     ∙ ap (λ (r : List ℕ). take i l ++ (vs ++ r)) (ap (λ (k : ℕ). drop (i + k) m) e ∙ q ∙ ap (λ (k : ℕ). drop (i + k) l) (sym e))
 
 -- the four numbers of a row
-pub front : (l : List ℕ) (i : ℕ) → i + 12 ≤ length l → getD l i 0 ∷ getD l (i + 1) 0 ∷ getD l (i + 2) 0 ∷ getD l (i + 3) 0 ∷ [] ≡ take 4 (drop i l)
+pub row-numbers : (l : List ℕ) (i : ℕ) → i + 12 ≤ length l → getD l i 0 ∷ getD l (i + 1) 0 ∷ getD l (i + 2) 0 ∷ getD l (i + 3) 0 ∷ [] ≡ take 4 (drop i l)
 unfolding rowWords rowAt
-front l i h = ap (take 4) (row-words l i h) ∙ take-take 4 12 (drop i l) (omega arith)
+row-numbers l i h = ap (take 4) (row-words l i h) ∙ take-take 4 12 (drop i l) (omega arith)
 
 -- one word of a part
 pub set-part : (l : List ℕ) (i n w v : ℕ) → w < n → i + n ≤ length l → set l (i + w) v ≡ over l i (set (take n (drop i l)) w v)

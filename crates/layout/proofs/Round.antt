@@ -91,20 +91,20 @@ from-memory-round (loadMemAck ws) h = refl
 from-memory-round storeMemAck h = refl
 
 -- no message has type 0
-request-typed : (m : Request) → eqb (encRequest m .n0) 0 ≡ false
+pub request-typed : (m : Request) → eqb (encRequest m .n0) 0 ≡ false
 unfolding encRequest
 request-typed (loadReq w) = refl
 request-typed (storeReq w) = refl
 request-typed wbGuardReq = refl
 
-forward-typed : (m : Forward) → eqb (encForward m .n0) 0 ≡ false
+pub forward-typed : (m : Forward) → eqb (encForward m .n0) 0 ≡ false
 unfolding encForward
 forward-typed loadFwd = refl
 forward-typed storeFwd = refl
 forward-typed invFwd = refl
 forward-typed (dataAck r miss ws) = refl
 
-reply-typed : (m : Reply) → eqb (encReply m .n0) 0 ≡ false
+pub reply-typed : (m : Reply) → eqb (encReply m .n0) 0 ≡ false
 unfolding encReply
 reply-typed (wbReq ws) = refl
 reply-typed (loadFwdAckS none) = refl
@@ -114,12 +114,12 @@ reply-typed (storeFwdAck none) = refl
 reply-typed (storeFwdAck (some ws)) = refl
 reply-typed invFwdAck = refl
 
-to-memory-typed : (m : ToMemory) → eqb (encToMemory m .n0) 0 ≡ false
+pub to-memory-typed : (m : ToMemory) → eqb (encToMemory m .n0) 0 ≡ false
 unfolding encToMemory
 to-memory-typed loadMem = refl
 to-memory-typed (storeMem ws) = refl
 
-from-memory-typed : (m : FromMemory) → eqb (encFromMemory m .n0) 0 ≡ false
+pub from-memory-typed : (m : FromMemory) → eqb (encFromMemory m .n0) 0 ≡ false
 unfolding encFromMemory
 from-memory-typed (loadMemAck ws) = refl
 from-memory-typed storeMemAck = refl

@@ -14,7 +14,7 @@ use Rattle.layout.specs.Encode.{encHome, encode}
 use Rattle.layout.specs.Decode.{decTiles, decHome, decQueue, decToMemory, decFromMemory, benchFrom, decoded}
 use Rattle.protocol.specs.Answers.{sentOn, sentTo, answerOf}
 use Rattle.layout.proofs.Canonical.{home-canonical}
-use Rattle.messages.specs.Queues.{queueOfMessage, There, OwnerIn, HomeNames, NamesTiles}
+use Rattle.messages.specs.LastMessages.{queueOfMessage, There, OwnerIn, HomeNames, NamesTiles}
 use Rattle.messages.proofs.Sends.{sent-there}
 use Rattle.calls.specs.Calls.{tileCount, wellFormed, stepOn, wordsAfter}
 use Rattle.calls.proofs.Laid.{Laid}

@@ -8,6 +8,7 @@ use native.Mathlib.Omega.{arith}
 use lib.Dec.{eqb, ltb}
 use lib.ListN.{length, getD}
 use borrow.Author.Tests.{lt-ltb, le-ltb, le-leb, ltb-true, ltb-false}
+use Rattle.layout.proofs.Round.{request-typed, forward-typed, reply-typed, to-memory-typed, from-memory-typed}
 use Rattle.layout.specs.declared.rows.Row.{Row}
 use Rattle.layout.specs.declared.rows.Pair.{Pair}
 use Rattle.layout.specs.declared.rows.TileBlock.{TileBlock}
@@ -17,7 +18,8 @@ use Rattle.layout.specs.Blocks.{pairAt, homeBlockAt}
 use Rattle.protocol.specs.Parts.{Words, Queue, empty, one, two, Request, loadReq, storeReq, wbGuardReq, Forward, loadFwd, storeFwd, invFwd, dataAck, Reply, wbReq, loadFwdAckS, loadFwdAckI, storeFwdAck, invFwdAck, ToMemory, loadMem, storeMem, FromMemory, loadMemAck, storeMemAck, Message, onNoc1, onNoc2, onNoc3, toMemory, fromMemory, Tile, tileOf, Home, Bench, benchOf}
 use Rattle.protocol.specs.Bench.{freshTile, tileAt, noc1, noc3, noc2}
 use Rattle.layout.specs.Encode.{noRow, encRequest, encForward, encReply, encToMemory, encFromMemory, encQueue, encTile, encHome}
-use Rattle.messages.specs.Queues.{noQueue, lastOf, lastMessageOn, queueOfMessage}
+use Rattle.messages.specs.Queues.{noQueue}
+use Rattle.messages.specs.LastMessages.{lastOf, lastMessageOn, queueOfMessage}
 use Rattle.calls.proofs.Laid.{Laid, laid-length, laid-home, laid-tile}
 use Rattle.messages.specs.Rows.{lastRow, lastRowAt, tileRow, rowOn, sentAt, numbersOfMessage, noSent}
 
@@ -33,40 +35,6 @@ unfolding lastRow encQueue lastOf
 last-row f typed empty = refl
 last-row f typed (one a) = refl
 last-row f typed (two a b) = rw (typed b)
-
--- no message has type 0
-request-typed : (m : Request) → eqb (encRequest m .n0) 0 ≡ false
-unfolding encRequest
-request-typed (loadReq w) = refl
-request-typed (storeReq w) = refl
-request-typed wbGuardReq = refl
-
-forward-typed : (m : Forward) → eqb (encForward m .n0) 0 ≡ false
-unfolding encForward
-forward-typed loadFwd = refl
-forward-typed storeFwd = refl
-forward-typed invFwd = refl
-forward-typed (dataAck r miss ws) = refl
-
-reply-typed : (m : Reply) → eqb (encReply m .n0) 0 ≡ false
-unfolding encReply
-reply-typed (wbReq ws) = refl
-reply-typed (loadFwdAckS none) = refl
-reply-typed (loadFwdAckS (some ws)) = refl
-reply-typed loadFwdAckI = refl
-reply-typed (storeFwdAck none) = refl
-reply-typed (storeFwdAck (some ws)) = refl
-reply-typed invFwdAck = refl
-
-out-typed : (m : ToMemory) → eqb (encToMemory m .n0) 0 ≡ false
-unfolding encToMemory
-out-typed loadMem = refl
-out-typed (storeMem ws) = refl
-
-back-typed : (m : FromMemory) → eqb (encFromMemory m .n0) 0 ≡ false
-unfolding encFromMemory
-back-typed (loadMemAck ws) = refl
-back-typed storeMemAck = refl
 
 -- a tile's queues in its block
 block1 : (x : Tile) → encTile x .noc1 ≡ encQueue encRequest (noc1 x)
@@ -114,11 +82,11 @@ module _ (l : List ℕ) (h : Home) (last k : ℕ) (mem : Words) (out : Queue ToM
 
   row4 : rowOn l 4 0 ≡ rowed encToMemory (lastOf out)
   unfolding rowOn homeBlockAt encHome
-  row4 = from-there l 26 (encQueue encToMemory out) (omega (arith, long)) (ap (λ (x : HomeBlock). x .out) home) ∙ last-row encToMemory out-typed out
+  row4 = from-there l 26 (encQueue encToMemory out) (omega (arith, long)) (ap (λ (x : HomeBlock). x .out) home) ∙ last-row encToMemory to-memory-typed out
 
   row5 : rowOn l 5 0 ≡ rowed encFromMemory (lastOf back)
   unfolding rowOn homeBlockAt encHome
-  row5 = from-there l 50 (encQueue encFromMemory back) (omega (arith, long)) (ap (λ (x : HomeBlock). x .back) home) ∙ last-row encFromMemory back-typed back
+  row5 = from-there l 50 (encQueue encFromMemory back) (omega (arith, long)) (ap (λ (x : HomeBlock). x .back) home) ∙ last-row encFromMemory from-memory-typed back
 
   -- queue q of tile t, which stands `at` words into its block
   tile-row : (q at t : ℕ) (pick : TileBlock → Pair) → 12 + 24 * (q - 1) ≡ at → at ≤ 60 → ((x : TileBlock) → x ≡ blocks.tileBlockAt l (74 + 84 * t) → pick x ≡ pairAt l (74 + 84 * t + at)) → t < length ts

@@ -1,4 +1,4 @@
--- The moves of a tile, applied to its block, are document 01's rules, read through the codec: one list of clauses for each call.
+-- The moves of a tile, applied to its block, are document 01's rules, read through the layout's encoding: one list of clauses for each call.
 -- Assumes nothing.
 use Prim.Native.Nat.{ℕ}
 use mathlib.Core.Path.{_≡_, refl, sym, _∙_}
@@ -7,6 +7,7 @@ use mathlib.Core.List.{List, [], _∷_}
 use mathlib.Core.Option.{Option, some, none, Option·map}
 use lib.Dec.{eqb, ltb}
 use lib.ListN.{getD, set}
+use Rattle.layout.proofs.Round.{request-typed, forward-typed, reply-typed}
 use Rattle.layout.specs.declared.rows.Row.{Row}
 use Rattle.layout.specs.declared.rows.Pair.{Pair}
 use Rattle.layout.specs.declared.rows.TileBlock.{TileBlock}
@@ -46,30 +47,6 @@ encAfter k v s b (some x) = acceptedStep k v s (encTile x)
 unfoldable pub encStep : TileBlock → Result Tile → TileStep
 encStep b (refused n) = refusedStep n b
 encStep b (accepted k v x ms) = encAfter k v (sentOn ms) b (ownAll ms (some x))
-
--- no message has type 0
-pub request-kind : (m : Request) → eqb (encRequest m .n0) 0 ≡ false
-unfolding encRequest
-request-kind (loadReq w) = refl
-request-kind (storeReq w) = refl
-request-kind wbGuardReq = refl
-
-pub forward-kind : (m : Forward) → eqb (encForward m .n0) 0 ≡ false
-unfolding encForward
-forward-kind loadFwd = refl
-forward-kind storeFwd = refl
-forward-kind invFwd = refl
-forward-kind (dataAck r miss ws) = refl
-
-pub reply-kind : (m : Reply) → eqb (encReply m .n0) 0 ≡ false
-unfolding encReply
-reply-kind (wbReq ws) = refl
-reply-kind (loadFwdAckS none) = refl
-reply-kind (loadFwdAckS (some ws)) = refl
-reply-kind loadFwdAckI = refl
-reply-kind (storeFwdAck none) = refl
-reply-kind (storeFwdAck (some ws)) = refl
-reply-kind invFwdAck = refl
 
 unfoldable pub orElse : {A B : Type 0} → B → (A → B) → Option A → B
 orElse z f none = z
@@ -133,7 +110,7 @@ asks-load : (w : ℕ) (q1 : Queue Request) (q2 : Queue Forward) (q3 : Queue Repl
 unfolding moveApplied afterAccepted numbersIn moves.fullIf hasRoom afterMove replyPut stateAfterReply loadedValue encTile encHead encRequest cacheState cacheWords waitingNumber waitingWord waitingValue bench.onTile1
 asks-load w q1 q2 q3 =
     one-room (hasRoom (encQueue encRequest q1)) (Asked 31 1 w 0) _
-    ∙ on-note encRequest request-kind q1 (loadReq w) 31 w 0 0 refl (λ (q : Pair). acceptedStep 3 0 1 (tileBlock (encHead invalid (forLoad w)) q (encQueue encForward q2) (encQueue encReply q3))) _
+    ∙ on-note encRequest request-typed q1 (loadReq w) 31 w 0 0 refl (λ (q : Pair). acceptedStep 3 0 1 (tileBlock (encHead invalid (forLoad w)) q (encQueue encForward q2) (encQueue encReply q3))) _
     ∙ after1 invalid (forLoad w) q2 q3 1 _ _
 
 asks-store : (w v : ℕ) (c : Cache) (q1 : Queue Request) (q2 : Queue Forward) (q3 : Queue Reply) →
@@ -142,7 +119,7 @@ asks-store : (w v : ℕ) (c : Cache) (q1 : Queue Request) (q2 : Queue Forward) (
 unfolding moveApplied afterAccepted numbersIn moves.fullIf hasRoom afterMove replyPut stateAfterReply loadedValue encTile encHead encRequest waitingNumber waitingWord waitingValue bench.onTile1
 asks-store w v c q1 q2 q3 =
     one-room (hasRoom (encQueue encRequest q1)) (Asked 2 2 w v) _
-    ∙ on-note encRequest request-kind q1 (storeReq w) 2 w 0 0 refl (λ (q : Pair). acceptedStep 3 0 1 (tileBlock (encHead c (forStore w v)) q (encQueue encForward q2) (encQueue encReply q3))) _
+    ∙ on-note encRequest request-typed q1 (storeReq w) 2 w 0 0 refl (λ (q : Pair). acceptedStep 3 0 1 (tileBlock (encHead c (forStore w v)) q (encQueue encForward q2) (encQueue encReply q3))) _
     ∙ after1 c (forStore w v) q2 q3 1 _ _
 
 -- a test passed on
@@ -199,7 +176,7 @@ guards : (t : ℕ) (p : Waiting) (q1 : Queue Request) (q2 : Queue Forward) (b : 
 unfolding orElse encAfter encRequest ownTo ownOne bench.onTile1
 guards t p q1 q2 b none = refl
 guards t p q1 q2 b (some q) =
-    on-note encRequest request-kind q1 wbGuardReq 13 0 0 0 refl (λ (z : Pair). acceptedStep 3 0 6 (tileBlock (encHead invalid p) z (encQueue encForward q2) (encQueue encReply q))) (refusedStep 9 b) ∙ after1 invalid p q2 q 6 b (bench.push wbGuardReq q1)
+    on-note encRequest request-typed q1 wbGuardReq 13 0 0 0 refl (λ (z : Pair). acceptedStep 3 0 6 (tileBlock (encHead invalid p) z (encQueue encForward q2) (encQueue encReply q))) (refusedStep 9 b) ∙ after1 invalid p q2 q 6 b (bench.push wbGuardReq q1)
 
 evict-rule : (t : ℕ) (x : Tile) → moveApplied (encTile x) (moves.evict (numbersIn (encTile x))) ≡ encStep (encTile x) (rules.evictAt t x)
 unfolding moveApplied stepMade stepOf afterAccepted numbersIn moves.evict moves.fullIf hasRoom afterMove replyPut stateAfterReply loadedValue encTile encHead cacheState cacheWords stateNumber encReply rules.evictAt encStep encAfter sentOn ownAll ownTo ownOne bench.onTile3
@@ -208,7 +185,7 @@ evict-rule t (tileOf (valid shared ws) p q1 q2 q3) = refl
 evict-rule t (tileOf (valid exclusive ws) p q1 q2 q3) = refl
 evict-rule t (tileOf (valid modified ws) p q1 q2 q3) =
     both-room (hasRoom (encQueue encReply q3)) (hasRoom (encQueue encRequest q1)) WriteBack _
-    ∙ on-room encReply reply-kind q3 (wbReq ws)
+    ∙ on-room encReply reply-typed q3 (wbReq ws)
     (λ (z : Pair). cond (hasRoom (encQueue encRequest q1)) (acceptedStep 3 0 6 (tileBlock (encHead invalid p) (pushNumbers (encQueue encRequest q1) 13 0 0 0) (encQueue encForward q2) z)) (refusedStep 9 (encTile (tileOf (valid modified ws) p q1 q2 q3))))
     _
     ∙ guards t p q1 q2 (encTile (tileOf (valid modified ws) p q1 q2 q3)) (bench.push (wbReq ws) q3)
@@ -224,14 +201,14 @@ module _ (t : ℕ) (q1 : Queue Request) (q3 : Queue Reply) (b : Row) (q : Queue 
       ≡ encAfter 3 0 3 x (bench.onTile3 a (tileOf c p q1 q q3))
   unfolding bench.onTile3
   noted x y a c p k r e =
-      rw (left y) (on-note encReply reply-kind q3 a k 0 r 0 e (λ (z : Pair). acceptedStep 3 0 3 (tileBlock (encHead c p) (encQueue encRequest q1) (encQueue encForward q) z)) _ ∙ after3 c p q1 q _ (bench.push a q3))
+      rw (left y) (on-note encReply reply-typed q3 a k 0 r 0 e (λ (z : Pair). acceptedStep 3 0 3 (tileBlock (encHead c p) (encQueue encRequest q1) (encQueue encForward q) z)) _ ∙ after3 c p q1 q _ (bench.push a q3))
 
   pushed : (x : TileBlock) (y : Row) (a : Reply) (c : Cache) (p : Waiting) →
       cond (hasRoom (encQueue encReply q3)) (acceptedStep 3 0 3 (tileBlock (encHead c p) (encQueue encRequest q1) (popRow (record { a = y; b = b })) (pushRow (encQueue encReply q3) (encReply a)))) (refusedStep 9 x)
       ≡ encAfter 3 0 3 x (bench.onTile3 a (tileOf c p q1 q q3))
   unfolding bench.onTile3
   pushed x y a c p =
-      rw (left y) (on-room encReply reply-kind q3 a (λ (z : Pair). acceptedStep 3 0 3 (tileBlock (encHead c p) (encQueue encRequest q1) (encQueue encForward q) z)) _ ∙ after3 c p q1 q _ (bench.push a q3))
+      rw (left y) (on-room encReply reply-typed q3 a (λ (z : Pair). acceptedStep 3 0 3 (tileBlock (encHead c p) (encQueue encRequest q1) (encQueue encForward q) z)) _ ∙ after3 c p q1 q _ (bench.push a q3))
 
   -- the line comes in
   filled : (y : Row) (k v : ℕ) (c : Cache) → acceptedStep k v 0 (tileBlock (encHead c nothing) (encQueue encRequest q1) (popRow (record { a = y; b = b })) (encQueue encReply q3)) ≡ acceptedStep k v 0 (encTile (tileOf c nothing q1 q q3))
@@ -295,7 +272,7 @@ last-left x = refl
 
 second-left : (n : Forward) (x : Row) → popRow (record { a = x; b = encForward n }) ≡ encQueue encForward (one n)
 unfolding popRow encQueue
-second-left n x = rw (forward-kind n)
+second-left n x = rw (forward-typed n)
 
 none-rule : (h : Row) (x z : Pair) → moveApplied (tileBlock h x (record { a = noRow; b = noRow }) z) (moves.deliver (numbersIn (tileBlock h x (record { a = noRow; b = noRow }) z))) ≡ refusedStep 7 (tileBlock h x (record { a = noRow; b = noRow }) z)
 unfolding moveApplied stepMade stepOf afterAccepted numbersIn moves.deliver

@@ -1,5 +1,5 @@
 use mathlib.Core.Path.{refl, sym, _∙_}
-use Rattle.home_words.proofs.Committed.{move-stopped, move-full, move-done}
+use Rattle.home_words.proofs.Committed.{move-refused, move-full, move-done}
 use Rattle.layout.specs.Blocks.{homeBlockAt}
 use Rattle.home_words.specs.Commits.{popped, frontWords, answering}
 use borrow.Author.Needs.{needs}
@@ -16,7 +16,7 @@ returns-2 c = move-full (c .before .before .before .before .before .before .befo
 
 returns-3 : tie.Need-returns-3
 unfolding answering
-returns-3 c = move-stopped (c .before .before .before .before .args .words .now) (popped (c .before .before .before .before .args .words .now) (c .before .before .before .before .args .at)) (c .before .before .before .before .args .count) (c .before .before .before .before .args .value) (homeBlockAt (popped (c .before .before .before .before .args .words .now) (c .before .before .before .before .args .at))) (frontWords (c .before .before .before .before .args .words .now) (c .before .before .before .before .args .at)) (c .before .before .before .before .args .made) _ _ (c .before .if1 .left) (c .refused2 .ensures) refl
+returns-3 c = move-refused (c .before .before .before .before .args .words .now) (popped (c .before .before .before .before .args .words .now) (c .before .before .before .before .args .at)) (c .before .before .before .before .args .count) (c .before .before .before .before .args .value) (homeBlockAt (popped (c .before .before .before .before .args .words .now) (c .before .before .before .before .args .at))) (frontWords (c .before .before .before .before .args .words .now) (c .before .before .before .before .args .at)) (c .before .before .before .before .args .made) _ _ (c .before .if1 .left) (c .refused2 .ensures) refl
 
 pub commit-spec : {M : Type 1} → statement M
 commit-spec =
