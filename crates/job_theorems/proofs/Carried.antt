@@ -18,7 +18,7 @@ use Rattle.layout.proofs.RangeKept.{tile-in, after-in}
 use Rattle.layout.specs.Decode.{decoded}
 use Rattle.calls.specs.Calls.{wellFormed, stepOn}
 use Rattle.theorems.proofs.WellFormed.{well-formed-iff}
-use Rattle.messages.specs.Queues.{lastOf, lastMessageOn, queueOfMessage, There}
+use Rattle.messages.specs.LastMessages.{lastOf, lastMessageOn, queueOfMessage, There}
 use Rattle.messages.proofs.Sends.{sent-there}
 use Rattle.messages.specs.Rows.{numbersOfMessage}
 use Rattle.flits.specs.Table.{rowOf}

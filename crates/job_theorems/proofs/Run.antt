@@ -28,7 +28,7 @@ use Rattle.job_rules.specs.RunStates.{Left, ended, runOf}
 use Rattle.job_rules.specs.Room.{bytesOf, MOST-CALL-BYTES}
 use Rattle.job_rules.specs.Pieces.{preceded, bytesOfCall, wordsAfterCall, pieceFrom, pieceIn, acceptedPiece, firstPiece, nextPiece, lastFrom, wordsPrinted}
 use Rattle.job_rules.proofs.Pieces.{oneCall, piece-further, piece-moves}
-use Rattle.job_theorems.specs.Run.{Printed, printedAfter, printedFrom, printed, allOf, Accepted-statement, Refused-statement, printout, Run-statement, Words-statement}
+use Rattle.job_theorems.specs.Run.{Printed, printedAfter, printedFrom, printed, allOf, AcceptedRun-statement, RefusedRun-statement, printout, Run-statement, Words-statement}
 
 bytes-append : (xs ys : List (List ℕ)) → bytesOf (xs ++ ys) ≡ bytesOf xs ++ bytesOf ys
 unfolding bytesOf
@@ -115,7 +115,7 @@ first-accepted : (job : List ℕ) (len : ℕ) (l : List ℕ) → MOST-CALL-BYTES
 unfolding firstPiece
 first-accepted job len l h e = rw (le-ltb len MOST-CALL-BYTES h, eq-eqb (checkJob job .refusal) 0 e)
 
-pub accepted-run : Accepted-statement
+pub accepted-run : AcceptedRun-statement
 unfolding printed acceptedPiece preceded bytesOf listingOf callsOf
 accepted-run job l len y e w h =
     let a = accepted-job job e in
@@ -133,7 +133,7 @@ unfolding printedFrom
 ended-pieces zero job len bs l = refl
 ended-pieces (suc f) job len bs l = refl
 
-pub refused-run : Refused-statement
+pub refused-run : RefusedRun-statement
 unfolding printed firstPiece
 refused-run job l len f e h = rw (le-ltb len MOST-CALL-BYTES h, ne-eqb (checkJob job .refusal) 0 e) (ended-pieces f job len (refusedLine (checkJob job .refusal) (checkJob job .offset)) l)
 

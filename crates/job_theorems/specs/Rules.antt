@@ -13,6 +13,7 @@ use Rattle.messages.specs.Rows.{numbersOfMessage}
 use Rattle.message_flits.specs.Fields.{messageFields, messageData}
 use Rattle.flits.specs.Writing.{flitsOf}
 use Rattle.listing.specs.Lines.{benchLine, callLine, messageLine, endLine}
+use Rattle.job_format.specs.Bytes.{BYTE-VALUES}
 use Rattle.job_format.specs.Check.{checkJob, jobAccepted}
 use Rattle.job_format.specs.Job.{tileCountOf, lineAddressOf, memoryWordsOf, callsOf}
 use Rattle.job_rules.specs.Calls.{benchCall}
@@ -41,9 +42,6 @@ unfoldable pub ruleListing : List ℕ → List (List ℕ)
 ruleListing job = benchLine (tileCountOf job) (lineAddressOf job) ∷ stepLines (lineAddressOf job) 0 (map benchCall (callsOf job)) (fresh (tileCountOf job) (memoryWordsOf job))
 
 -- a list of bytes
-abbrev pub BYTE-VALUES : ℕ
-BYTE-VALUES = 256
-
 abbrev pub Bytes : List ℕ → Type 0
 Bytes job = (i : ℕ) → getD job i 0 < BYTE-VALUES
 

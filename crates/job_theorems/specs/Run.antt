@@ -44,13 +44,13 @@ allOf bs = record { bytes = bs; going = false }
 
 -- An accepted job, in words that are enough for its tiles and a buffer of at least 12,180 bytes: the pieces are all bytes of the listing
 -- by 01's rules, and end after no more pieces than the job has bytes.
-abbrev pub Accepted-statement : Type 0
-Accepted-statement =
+abbrev pub AcceptedRun-statement : Type 0
+AcceptedRun-statement =
     (job l : List ℕ) (len : ℕ) → Bytes job → checkJob job ≡ jobAccepted → benchWords (tileCountOf job) ≤ length l → MOST-CALL-BYTES ≤ len → printed (length job) job len l ≡ allOf (bytesOf (ruleListing job))
 
 -- A refused job: the first piece is the line of its refusal, and there is no other.
-abbrev pub Refused-statement : Type 0
-Refused-statement =
+abbrev pub RefusedRun-statement : Type 0
+RefusedRun-statement =
     (job l : List ℕ) (len f : ℕ) → (checkJob job .refusal ≡ ACCEPTED → ⊥) → MOST-CALL-BYTES ≤ len → printed f job len l ≡ allOf (refusedLine (checkJob job .refusal) (checkJob job .offset))
 
 -- what 01 says that is printed of a byte string

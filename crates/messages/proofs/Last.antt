@@ -15,7 +15,8 @@ use Rattle.protocol.specs.Home.{members}
 use Rattle.protocol.specs.Bench.{freshTile, tileAt, push, onTile1, onTile2, onTile3, sendOne, sendTo, send, outcome, posted, noc1, noc3, noc2}
 use Rattle.protocol.specs.Answers.{sentOn, sentTo}
 use Rattle.messages.specs.declared.queues.BenchQueue.{BenchQueue}
-use Rattle.messages.specs.Queues.{benchQueue, queueOfEach, noc3ThenNoc1, sentQueues, lastOf, lastMessageOn, queueOfMessage, allThere, sentMessages, There}
+use Rattle.messages.specs.Queues.{benchQueue, queueOfEach, noc3ThenNoc1, sentQueues}
+use Rattle.messages.specs.LastMessages.{lastOf, lastMessageOn, queueOfMessage, allThere, sentMessages, There}
 use Rattle.messages.proofs.Rising.{Rising, maskOf, members-mask}
 
 abbrev pub tilesOf : Bench → List Tile
@@ -116,7 +117,7 @@ last5 : (h : Home) (l k : ℕ) (mem : Words) (out : Queue ToMemory) (back : Queu
 unfolding lastMessageOn sentOn sentTo sentQueues queueOfMessage
 last5 h l k mem out back ts m e = record { queues = refl; last = rw e }
 
--- the mask of the tiles told
+-- the mask of the tiles sent to
 told-mask : (f : Forward) (us : List ℕ) → sentTo (map (tell f) us) ≡ maskOf us
 unfolding sentTo maskOf
 told-mask f [] = refl

@@ -15,7 +15,7 @@ use Rattle.protocol.specs.Home.{Move, move, members, grantShared, grant, askOwn
 use Rattle.protocol.specs.Bench as bench
 use Rattle.protocol.specs.Bench.{freshTile, tileAt, front, rest, send, outcome, posted, kindOf, settle, atTile, atWord, noc1, noc3, popNoc1, popNoc3, served, takeFront, takeChosen, takingOn, writtenBack, fitted, acceptReply, fromTileOn, memoryServes, memoryStepOn, acceptAck, memoryAckOn, homeEvictionOn, step, arbitrate}
 use Rattle.protocol.specs.Answers.{sentOn, sentTo}
-use Rattle.messages.specs.Queues.{sentMessages, There, OwnerIn, HomeNames, NamesTiles}
+use Rattle.messages.specs.LastMessages.{sentMessages, There, OwnerIn, HomeNames, NamesTiles}
 use Rattle.messages.proofs.Rising.{Rising, members-rising}
 use Rattle.messages.proofs.Last.{tilesOf, tell, Shape, silent, asks, replies, writesBack, tells, files, answers, Sent, all-sent, silent-there, there-messages}
 

@@ -7,10 +7,10 @@ use lib.ListN.{length, getD}
 use Rattle.numbers.specs.Limits.{MOST-TILES}
 use Rattle.numbers.specs.Queues.{NO-QUEUE, NOC1, NOC2, NOC3, TO-MEMORY, FROM-MEMORY}
 use Rattle.numbers.specs.Types.{NO-MESSAGE}
-use Rattle.layout.specs.Places.{SECOND, QUEUE-WORDS, TILE-NOC1, TILE-WORDS, HOME-TO-MEMORY, HOME-FROM-MEMORY, HOME-WORDS}
+use Rattle.layout.specs.Places.{SECOND, QUEUE-WORDS, TILE-NOC1, HOME-TO-MEMORY, HOME-FROM-MEMORY}
 use Rattle.layout.specs.declared.rows.Row.{Row}
 use Rattle.layout.specs.declared.rows.Pair.{Pair}
-use Rattle.layout.specs.Blocks.{pairAt}
+use Rattle.layout.specs.Blocks.{tilePlace, pairAt, messageType}
 use Rattle.layout.specs.Encode.{noRow, encRequest, encForward, encReply, encToMemory, encFromMemory}
 use Rattle.protocol.specs.Parts.{Message, onNoc1, onNoc2, onNoc3, toMemory, fromMemory}
 use Rattle.calls.specs.Calls.{tileCount}
@@ -20,11 +20,11 @@ use Rattle.messages.specs.declared.Sent.{Sent}
 
 -- no queue of a bench of at most 64 tiles stands behind this place
 abbrev pub PLACES-END : ℕ
-PLACES-END = 10000
+PLACES-END = tilePlace MOST-TILES
 
 -- the last message of a queue of two rows: a free place has no type
 unfoldable pub lastRow : Pair → Row
-lastRow q = cond (eqb (q .b .n0) NO-MESSAGE) (q .a) (q .b)
+lastRow q = cond (eqb (messageType (q .b)) NO-MESSAGE) (q .a) (q .b)
 
 -- of the queue that stands at a place of the words, none where they are too short
 unfoldable pub lastRowAt : List ℕ → ℕ → Row
@@ -34,7 +34,7 @@ lastRowAt l at = cond (leb (at + QUEUE-WORDS) (length l)) (lastRow (pairAt l at)
 unfoldable pub tileRow : List ℕ → ℕ → ℕ → Row
 tileRow l q t =
     cond (ltb t MOST-TILES)
-    (cond (ltb t (tileCount l)) (lastRowAt l (HOME-WORDS + TILE-WORDS * t + TILE-NOC1 + QUEUE-WORDS * (q - 1))) noRow) noRow
+    (cond (ltb t (tileCount l)) (lastRowAt l (tilePlace t + TILE-NOC1 + QUEUE-WORDS * (q - NOC1))) noRow) noRow
 
 -- of any queue
 unfoldable pub rowOn : List ℕ → ℕ → ℕ → Row

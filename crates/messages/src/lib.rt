@@ -1,6 +1,6 @@
-// The messages that a call sent, read out of the words after it (01: 'which messages it sent'). An answer says in two numbers, `sent` and
-// `tiles`, on which queues they are; each is the last of its queue.
-// - queues (specs/Queues): the queues of an answer; lib (specs/Rows): the message on one
+// The messages that a call sent, read out of the words after it. An answer says in two numbers, `sent` and `tiles`, on which queues they
+// are; each is the last of its queue.
+// - queues (specs/Queues): the queues of an answer; lib (specs/Rows): the message on one; specs/LastMessages is a device of the proofs
 mod queues;
 
 ghost use mathlib.Core.Path.{_≡_};
@@ -24,6 +24,7 @@ use numbers::limits::LINE_LENGTH;
 use numbers::limits::MOST_TILES;
 use numbers::queues::FROM_MEMORY;
 use numbers::queues::NO_QUEUE;
+use numbers::queues::NOC1;
 use numbers::queues::NOC3;
 use numbers::queues::TO_MEMORY;
 use numbers::types::NO_MESSAGE;
@@ -84,7 +85,7 @@ fn tile_row(words: &[u64], queue: u64, tile: u64) -> Row
     if tile < MOST_TILES {
         if tile < tile_count(words) {
             let first = HOME_WORDS + TILE_WORDS * (tile as usize) + TILE_NOC1;
-            last_row_at(words, first + QUEUE_WORDS * (queue as usize - 1))
+            last_row_at(words, first + QUEUE_WORDS * ((queue - NOC1) as usize))
         } else {
             no_row()
         }
