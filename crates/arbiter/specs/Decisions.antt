@@ -7,11 +7,12 @@ use lib.Dec.{eqb, ltb}
 use lib.ListN.{getD}
 use Rattle.numbers.specs.Refusals.{NO-TILE}
 use Rattle.numbers.specs.Tags.{TAG-TAKING, TAG-FROM-TILE, TAG-MEMORY-ACK}
-use Rattle.layout.specs.Places.{MESSAGE-STATE, MESSAGE-FLAG, HOME-FROM-MEMORY, HOME-WORDS, TILE-WORDS, TILE-NOC3}
-use Rattle.layout.specs.Blocks.{homeBlockAt}
+use Rattle.layout.specs.Places.{MESSAGE-STATE, MESSAGE-FLAG, HOME-FROM-MEMORY, TILE-NOC3}
+use Rattle.layout.specs.Blocks.{tilePlace, homeBlockAt}
 use Rattle.home_rules.specs.declared.moves.HomeMove.{HomeMove}
 use Rattle.home_rules.specs.Moves as moves
 use Rattle.home_rules.specs.Steps.{numbersIn}
+use Rattle.home_words.specs.Commits.{NO-PLACE}
 use Rattle.arbiter.specs.declared.takings.Decision.{Decision}
 use Rattle.arbiter.specs.Takings.{decision, refusing, takingDecision}
 
@@ -22,14 +23,14 @@ replyMove l t i = moves.acceptReply (numbersIn (homeBlockAt l)) t (getD l i 0) (
 -- 2 where there is no tile t
 unfoldable pub fromTileDecision : List ℕ → ℕ → ℕ → Decision
 fromTileDecision l n t =
-    cond (ltb t n) (decision 0 (HOME-WORDS + TILE-WORDS * t + TILE-NOC3) (replyMove l t (HOME-WORDS + TILE-WORDS * t + TILE-NOC3)))
+    cond (ltb t n) (decision 0 (tilePlace t + TILE-NOC3) (replyMove l t (tilePlace t + TILE-NOC3)))
     (refusing (numbersIn (homeBlockAt l)) NO-TILE)
 
 unfoldable pub memoryAckDecision : List ℕ → Decision
 memoryAckDecision l = decision 0 HOME-FROM-MEMORY (moves.memoryAck (numbersIn (homeBlockAt l)) (getD l HOME-FROM-MEMORY 0))
 
 unfoldable pub evictionDecision : List ℕ → Decision
-evictionDecision l = decision 0 0 (moves.evictLine (numbersIn (homeBlockAt l)))
+evictionDecision l = decision 0 NO-PLACE (moves.evictLine (numbersIn (homeBlockAt l)))
 
 -- by tag
 unfoldable pub decisionOf : List ℕ → ℕ → ℕ → ℕ → Decision

@@ -7,7 +7,8 @@ use lib.Dec.{eqb, ltb}
 use lib.ListN.{getD}
 use Rattle.numbers.specs.Limits.{MOST-TILES}
 use Rattle.numbers.specs.Types.{NO-MESSAGE, WBGUARD-REQ}
-use Rattle.layout.specs.Places.{HOME-WORDS, TILE-WORDS, TILE-NOC1}
+use Rattle.layout.specs.Places.{TILE-NOC1}
+use Rattle.layout.specs.Blocks.{tilePlace}
 use Rattle.masks.specs.Mask.{has, add64}
 use Rattle.masks.specs.Next.{next}
 
@@ -17,7 +18,7 @@ mayTake mark k = cond (eqb k NO-MESSAGE) false (cond (eqb k WBGUARD-REQ) mark tr
 
 -- tile i, with the marks k
 unfoldable pub canTake : List ℕ → ℕ → ℕ → Bool
-canTake l k i = mayTake (has k i) (getD l (HOME-WORDS + TILE-WORDS * i + TILE-NOC1) 0)
+canTake l k i = mayTake (has k i) (getD l (tilePlace i + TILE-NOC1) 0)
 
 -- the tiles of the mask a, and those of n tiles from tile i on that may be taken
 unfoldable pub readyFrom : ℕ → List ℕ → ℕ → ℕ → ℕ → ℕ

@@ -8,6 +8,7 @@ ghost use Rattle.layout.specs.Blocks.{benchWords};
 ghost use Rattle.arbiter.specs.Decisions.{replyMove, fromTileDecision, memoryAckDecision, evictionDecision, decisionOf};
 use crate::takings::Decision;
 use home_rules::HomeMove;
+use home_words::NO_PLACE;
 use layout::places::HOME_FROM_MEMORY;
 use layout::places::HOME_WORDS;
 use layout::places::MESSAGE_FLAG;
@@ -67,7 +68,7 @@ fn eviction_decision(words: &[u64]) -> Decision
 {
     crate::takings::serving(
         0,
-        0,
+        NO_PLACE,
         home_rules::evict_line(home_words::read_numbers(words)),
     )
 }

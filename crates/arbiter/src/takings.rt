@@ -8,6 +8,7 @@ ghost use Rattle.layout.specs.Blocks.{benchWords};
 ghost use Rattle.arbiter.specs.Takings.{decision, refusing, takingOf, takingDecision};
 use home_rules::HomeMove;
 use home_rules::HomeNumbers;
+use home_words::NO_PLACE;
 use layout::codes::PHASE_IDLE;
 use layout::places::HOME_LAST_TAKEN;
 use layout::places::HOME_MARKS;
@@ -18,7 +19,7 @@ use layout::places::TILE_WORDS;
 use numbers::refusals::NOT_IDLE;
 use numbers::refusals::NOTHING_THERE;
 
-// The value answered, the place of the queue whose front message is answered (0: it answers none), and the move.
+// The value answered, the place of the queue whose front message is answered (NO_PLACE: it answers none), and the move.
 pub struct Decision {
     pub value: u64,
     pub place: usize,
@@ -34,7 +35,7 @@ pub fn serving(value: u64, place: usize, made: HomeMove) -> Decision
 pub fn refusing(home: HomeNumbers, refusal: u64) -> Decision
     ensures { λ r. ⌜ r ≡ refusing home refusal ⌝ }
 {
-    serving(0, 0, home_rules::refused_move(home, refusal))
+    serving(0, NO_PLACE, home_rules::refused_move(home, refusal))
 }
 
 // The tile chosen is taken; none is chosen where it is not one of the bench's.

@@ -115,7 +115,7 @@ module _ (f : Forward) where
   unfolding forwardsTo
   file-told n m q = file-each (members m n) q
 
-  -- ---- the numbers of a result that tells the tiles of a mask
+  -- ---- the numbers of a result that sends to the tiles of a mask
   pub told-step : (n m : ℕ) → n ≤ 64 → 0 < m → m < 2 ^ n → (x : HomeBlock) (h : Home) (l k : ℕ) (mem : Words) (out : Queue ToMemory) (back : Queue FromMemory)
       → encStep n x (went h l k mem out back (forwardsTo n m f)) ≡ forwardStep (encHome n h l k mem out back) m (encForward f)
   unfolding forwardsTo encStep forwardStep kindOf sentOn forwardRow targets

@@ -14,17 +14,17 @@ use Rattle.protocol.specs.Parts.{Words, Queue, one, Access, reading, writing, S
 use Rattle.protocol.specs.Home.{Move, move, grantShared, grant, askedFor, askOwner, invalidateTo, invalidate, leave, serve, writeBack, loadAckS, loadAckI, storeAck, cleared, invAck, acknowledged, evictLine, ackDirty, ackWords, grantMessage, grantedLine}
 use Rattle.protocol.specs.Bench.{push, front, rest}
 use Rattle.layout.specs.Range.{LineIn, ClearingIn, HomeIn}
-use Rattle.home_rules.specs.Results.{stopped, MemoryQueues, queuesOf, putMemory, putMemoryTo, putMemoryAll, wentWith, movedHome, fittingHome, takenHome, writtenHome, acceptedHome, servedMemory, steppedHome, ackedFront, ackedHome, evictedHome, forwardsTo, Sends, refuses, silent, tells, files, answers}
+use Rattle.home_rules.specs.Results.{homeRefused, MemoryQueues, queuesOf, putMemory, putMemoryTo, putMemoryAll, wentWith, movedHome, fittingHome, takenHome, writtenHome, acceptedHome, servedMemory, steppedHome, ackedFront, ackedHome, evictedHome, forwardsTo, Sends, refuses, silent, sendsForwards, sendsToMemory, sendsFromMemory}
 use Rattle.home_rules.proofs.Forwards.{add-pos, add-below, told-one, file-told}
 
 module _ (n : ℕ) where
-  seven : Sends n (stopped 7)
+  seven : Sends n (homeRefused 7)
   seven = refuses 7 (omega arith)
 
-  eight : Sends n (stopped 8)
+  eight : Sends n (homeRefused 8)
   eight = refuses 8 (omega arith)
 
-  nine : Sends n (stopped 9)
+  nine : Sends n (homeRefused 9)
   nine = refuses 9 (omega arith)
 
   -- a message to memory, or from it, where its queue may be full
@@ -32,18 +32,18 @@ module _ (n : ℕ) where
       → Sends n (wentWith (toMemory m ∷ []) (Option·map (λ q. queuesOf q back) o) h l k mem)
   unfolding wentWith
   to-memory h l k mem back m none = nine
-  to-memory h l k mem back m (some q) = files
+  to-memory h l k mem back m (some q) = sendsToMemory
 
   from-memory : (h : Home) (l k : ℕ) (mem : Words) (out : Queue ToMemory) (m : FromMemory) (o : Option (Queue FromMemory))
       → Sends n (wentWith (fromMemory m ∷ []) (Option·map (λ q. queuesOf out q) o) h l k mem)
   unfolding wentWith
   from-memory h l k mem out m none = nine
-  from-memory h l k mem out m (some q) = answers
+  from-memory h l k mem out m (some q) = sendsFromMemory
 
 module _ (n l k : ℕ) (mem : Words) (out : Queue ToMemory) (back : Queue FromMemory) where
   one-tile : (h : Home) (t : ℕ) (f : Forward) → t < n → Sends n (movedHome (move h (onNoc2 t f ∷ [])) l k mem out back)
   unfolding movedHome wentWith putMemoryAll putMemoryTo putMemory
-  one-tile h t f i = tells (add 0 t) f (add-pos t) (add-below n t i) (told-one n t f i)
+  one-tile h t f i = sendsForwards (add 0 t) f (add-pos t) (add-below n t i) (told-one n t f i)
 
   grants : (d : Bool) (ws : Words) (miss : Bool) (t : ℕ) (a : Access) → t < n → Sends n (movedHome (grant d ws miss (task t a)) l k mem out back)
   unfolding grant
@@ -59,7 +59,7 @@ module _ (n l k : ℕ) (mem : Words) (out : Queue ToMemory) (back : Queue FromMe
 
   clears : (d : Bool) (ws : Words) (m u : ℕ) (c : Clearing) → 0 < u → u < 2 ^ n → Sends n (movedHome (invalidate n d ws m u c) l k mem out back)
   unfolding invalidate invalidateTo movedHome forwardsTo wentWith
-  clears d ws m u c p b = subst (λ (q : Option MemoryQueues). Sends n (wentWith (forwardsTo n u invFwd) q (awaitingAcks d ws m u c) l k mem)) (sym (file-told invFwd n u (queuesOf out back))) (tells u invFwd p b refl)
+  clears d ws m u c p b = subst (λ (q : Option MemoryQueues). Sends n (wentWith (forwardsTo n u invFwd) q (awaitingAcks d ws m u c) l k mem)) (sym (file-told invFwd n u (queuesOf out back))) (sendsForwards u invFwd p b refl)
 
   leaves : (d : Bool) (ws : Words) → Sends n (movedHome (leave d ws) l k mem out back)
   unfolding leave movedHome putMemoryAll putMemoryTo putMemory wentWith

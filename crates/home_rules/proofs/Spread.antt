@@ -30,7 +30,7 @@ abbrev withQueues : (Queue ToMemory → Queue FromMemory → Option Bench) → O
 withQueues f none = none
 withQueues f (some (queuesOf out back)) = f out back
 
--- all messages sent: those of memory filed first, the others then forwarded
+-- all messages sent: those to memory first, then the forwards
 module _ (h : Home) (l k : ℕ) (mem : Words) where
   atTile : (ms : List Message) (out : Queue ToMemory) (back : Queue FromMemory) (ts : List Tile) (t : ℕ) (o : Option Tile) (q : Option MemoryQueues)
       → ((us : List Tile) → send ms (some (benchOf h l k mem out back us)) ≡ withQueues (λ x y. forwardAll ms (some (benchOf h l k mem x y us))) q)

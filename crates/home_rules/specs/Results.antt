@@ -19,7 +19,7 @@ use Rattle.home_rules.specs.Steps.{stepOf, refusedStep}
 
 -- a refusal number; or home, last taken, marks, memory, queues to and from memory, and messages sent
 pub data HomeResult : Type 0 where
-  stopped : ℕ → HomeResult
+  homeRefused : ℕ → HomeResult
   went : Home → ℕ → ℕ → Words → Queue ToMemory → Queue FromMemory → List Message → HomeResult
 
 -- the queues to and from memory
@@ -60,35 +60,35 @@ forwardAll (m ∷ ms) o = forwardAll ms (forwardTo m o)
 
 -- the result with tiles ts and the answer's value v, once its messages to tiles are on their queues (9 where one holds two)
 unfoldable pub spread : ℕ → HomeResult → List Tile → Result Bench
-spread v (stopped r) ts = refused r
+spread v (homeRefused r) ts = refused r
 spread v (went h l k mem out back ms) ts = outcome (kindOf ms) v ms (forwardAll ms (some (benchOf h l k mem out back ts)))
 
 -- a rule's move, its messages to and from memory put on their queues
 unfoldable pub wentWith : List Message → Option MemoryQueues → Home → ℕ → ℕ → Words → HomeResult
-wentWith ms none h l k mem = stopped QUEUE-FULL
+wentWith ms none h l k mem = homeRefused QUEUE-FULL
 wentWith ms (some (queuesOf out back)) h l k mem = went h l k mem out back ms
 
 unfoldable pub movedHome : Move → ℕ → ℕ → Words → Queue ToMemory → Queue FromMemory → HomeResult
 movedHome (move h ms) l k mem out back = wentWith ms (putMemoryAll ms (some (queuesOf out back))) h l k mem
 
 unfoldable pub fittingHome : Option Move → ℕ → ℕ → Words → Queue ToMemory → Queue FromMemory → HomeResult
-fittingHome none l k mem out back = stopped MISFIT
+fittingHome none l k mem out back = homeRefused MISFIT
 fittingHome (some m) l k mem out back = movedHome m l k mem out back
 
 -- Taking of tile t, whose NoC1 front it is, by an idle home with line x, on a bench of n tiles.
 unfoldable pub takenHome : ℕ → ℕ → Option Request → Line → ℕ → Words → Queue ToMemory → Queue FromMemory → HomeResult
-takenHome n t none x k mem out back = stopped NOTHING-THERE
+takenHome n t none x k mem out back = homeRefused NOTHING-THERE
 takenHome n t (some wbGuardReq) x k mem out back = went (idle x) t (del k t) mem out back []
 takenHome n t (some (loadReq w)) x k mem out back = movedHome (serve n (task t reading) x) t k mem out back
 takenHome n t (some (storeReq w)) x k mem out back = movedHome (serve n (task t (writing storing)) x) t k mem out back
 
 -- Delivery from tile t, whose NoC3 front it is.
 unfoldable pub writtenHome : ℕ → Option Home → ℕ → ℕ → Words → Queue ToMemory → Queue FromMemory → HomeResult
-writtenHome t none l k mem out back = stopped MISFIT
+writtenHome t none l k mem out back = homeRefused MISFIT
 writtenHome t (some h) l k mem out back = went h l (add k t) mem out back []
 
 unfoldable pub acceptedHome : ℕ → Option Reply → Home → ℕ → ℕ → Words → Queue ToMemory → Queue FromMemory → HomeResult
-acceptedHome t none h l k mem out back = stopped NOTHING-THERE
+acceptedHome t none h l k mem out back = homeRefused NOTHING-THERE
 acceptedHome t (some (wbReq ws)) h l k mem out back = writtenHome t (writeBack t ws (has k t) h) l k mem out back
 acceptedHome t (some (loadFwdAckS x)) h l k mem out back = fittingHome (loadAckS t x h) l k mem out back
 acceptedHome t (some loadFwdAckI) h l k mem out back = fittingHome (loadAckI t h) l k mem out back
@@ -97,7 +97,7 @@ acceptedHome t (some invFwdAck) h l k mem out back = fittingHome (invAck t h) l 
 
 -- Memory step, of the front of the queue to memory, whose rest is `out`.
 unfoldable pub servedMemory : Option ToMemory → Home → ℕ → ℕ → Words → Queue ToMemory → Queue FromMemory → HomeResult
-servedMemory none h l k mem out back = stopped NOTHING-THERE
+servedMemory none h l k mem out back = homeRefused NOTHING-THERE
 servedMemory (some loadMem) h l k mem out back = movedHome (move h (fromMemory (loadMemAck mem) ∷ [])) l k mem out back
 servedMemory (some (storeMem ws)) h l k mem out back = movedHome (move h (fromMemory storeMemAck ∷ [])) l k ws out back
 
@@ -106,7 +106,7 @@ steppedHome h l k mem out back = servedMemory (front out) h l k mem (rest out) b
 
 -- Memory ack, of the front of the queue from memory, whose rest is `back`.
 unfoldable pub ackedFront : Option FromMemory → Home → ℕ → ℕ → Words → Queue ToMemory → Queue FromMemory → HomeResult
-ackedFront none h l k mem out back = stopped NOTHING-THERE
+ackedFront none h l k mem out back = homeRefused NOTHING-THERE
 ackedFront (some m) h l k mem out back = fittingHome (acknowledged m h) l k mem out back
 
 unfoldable pub ackedHome : Home → ℕ → ℕ → Words → Queue ToMemory → Queue FromMemory → HomeResult
@@ -114,12 +114,12 @@ ackedHome h l k mem out back = ackedFront (front back) h l k mem out (rest back)
 
 -- Home eviction.
 unfoldable pub evictedHome : ℕ → Home → ℕ → ℕ → Words → Queue ToMemory → Queue FromMemory → HomeResult
-evictedHome n (idle absent) l k mem out back = stopped NO-LINE
+evictedHome n (idle absent) l k mem out back = homeRefused NO-LINE
 evictedHome n (idle (present d ws x)) l k mem out back = movedHome (evictLine n d ws x) l k mem out back
-evictedHome n (awaitingLoad (task r a) x) l k mem out back = stopped NOT-IDLE
-evictedHome n (awaitingOwner d ws o c) l k mem out back = stopped NOT-IDLE
-evictedHome n (awaitingAcks d ws m u c) l k mem out back = stopped NOT-IDLE
-evictedHome n (awaitingStore x) l k mem out back = stopped NOT-IDLE
+evictedHome n (awaitingLoad (task r a) x) l k mem out back = homeRefused NOT-IDLE
+evictedHome n (awaitingOwner d ws o c) l k mem out back = homeRefused NOT-IDLE
+evictedHome n (awaitingAcks d ws m u c) l k mem out back = homeRefused NOT-IDLE
+evictedHome n (awaitingStore x) l k mem out back = homeRefused NOT-IDLE
 
 -- The numbers of a result: on which queue it sent, the mask of the tiles on NoC2, and the message for them.
 unfoldable pub targets : List Message → ℕ
@@ -140,7 +140,7 @@ forwardRow (fromMemory m ∷ ms) = forwardRow ms
 
 -- of a step on the block x of a bench of n tiles
 unfoldable pub encStep : ℕ → HomeBlock → HomeResult → HomeStep
-encStep n x (stopped r) = refusedStep x r
+encStep n x (homeRefused r) = refusedStep x r
 encStep n x (went h l k mem out back ms) = stepOf ACCEPTED (kindOf ms) (encHome n h l k mem out back) (sentOn ms) (targets ms) (forwardRow ms)
 
 -- the front of a queue, as its first row has it
@@ -154,8 +154,8 @@ forwardsTo n m f = map (λ t. onNoc2 t f) (members m n)
 
 -- What a result sends: nothing; a message for every tile of a mask that is not empty; or one message to or from memory.
 pub data Sends (n : ℕ) : HomeResult → Type 0 where
-  refuses : (r : ℕ) → 0 < r → Sends n (stopped r)
+  refuses : (r : ℕ) → 0 < r → Sends n (homeRefused r)
   silent : {h : Home} {l k : ℕ} {mem : Words} {out : Queue ToMemory} {back : Queue FromMemory} → Sends n (went h l k mem out back [])
-  tells : {h : Home} {l k : ℕ} {mem : Words} {out : Queue ToMemory} {back : Queue FromMemory} → (m : ℕ) (f : Forward) → 0 < m → m < 2 ^ n → {ms : List Message} → ms ≡ forwardsTo n m f → Sends n (went h l k mem out back ms)
-  files : {h : Home} {l k : ℕ} {mem : Words} {out : Queue ToMemory} {back : Queue FromMemory} {m : ToMemory} → Sends n (went h l k mem out back (toMemory m ∷ []))
-  answers : {h : Home} {l k : ℕ} {mem : Words} {out : Queue ToMemory} {back : Queue FromMemory} {m : FromMemory} → Sends n (went h l k mem out back (fromMemory m ∷ []))
+  sendsForwards : {h : Home} {l k : ℕ} {mem : Words} {out : Queue ToMemory} {back : Queue FromMemory} → (m : ℕ) (f : Forward) → 0 < m → m < 2 ^ n → {ms : List Message} → ms ≡ forwardsTo n m f → Sends n (went h l k mem out back ms)
+  sendsToMemory : {h : Home} {l k : ℕ} {mem : Words} {out : Queue ToMemory} {back : Queue FromMemory} {m : ToMemory} → Sends n (went h l k mem out back (toMemory m ∷ []))
+  sendsFromMemory : {h : Home} {l k : ℕ} {mem : Words} {out : Queue ToMemory} {back : Queue FromMemory} {m : FromMemory} → Sends n (went h l k mem out back (fromMemory m ∷ []))

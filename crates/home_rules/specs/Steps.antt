@@ -8,6 +8,7 @@ use Rattle.numbers.specs.Types.{NO-MESSAGE, DATA-ACK, LOAD-MEM, STORE-MEM, LOAD
 use Rattle.numbers.specs.Queues.{NO-QUEUE, NOC2, FROM-MEMORY}
 use Rattle.numbers.specs.Kinds.{KIND-OTHER, KIND-SENT}
 use Rattle.numbers.specs.Refusals.{ACCEPTED, NOTHING-THERE, QUEUE-FULL}
+use Rattle.layout.specs.Blocks.{messageType, messageState, messageFlag, lineValid, lineDirty, lineDirectoryNumber, lineHolders, controlLastTaken, controlMarks, controlRequester, controlOwed}
 use Rattle.layout.specs.declared.rows.Row.{Row}
 use Rattle.layout.specs.declared.rows.Pair.{Pair}
 use Rattle.layout.specs.declared.rows.HomeBlock.{HomeBlock}
@@ -36,7 +37,7 @@ forwardStep x to f = stepOf ACCEPTED KIND-SENT x NOC2 to f
 -- the numbers of a block by which the home decides
 unfoldable pub numbersIn : HomeBlock → HomeNumbers
 numbersIn x =
-    numbersOf (x .phase) (x .line .n0) (x .line .n1) (x .line .n2) (x .line .n3) (x .control .n0) (x .control .n1) (x .control .n2) (x .control .n3) (x .out .b .n0)
+    numbersOf (x .phase) (lineValid (x .line)) (lineDirty (x .line)) (lineDirectoryNumber (x .line)) (lineHolders (x .line)) (controlLastTaken (x .control)) (controlMarks (x .control)) (controlRequester (x .control)) (controlOwed (x .control)) (messageType (x .out .b))
 
 -- a block with other numbers; with other words of its line; with a message more on the queue to memory
 unfoldable pub withNumbers : HomeNumbers → HomeBlock → HomeBlock
@@ -46,7 +47,7 @@ withNumbers y x =
 
 unfoldable pub withWords : List ℕ → HomeBlock → HomeBlock
 withWords ws x =
-    blockOf (x .count) (x .phase) (row (x .line .n0) (x .line .n1) (x .line .n2) (x .line .n3) ws) (x .control) (x .out) (x .back)
+    blockOf (x .count) (x .phase) (row (lineValid (x .line)) (lineDirty (x .line)) (lineDirectoryNumber (x .line)) (lineHolders (x .line)) ws) (x .control) (x .out) (x .back)
 
 unfoldable pub withOutgoing : Row → HomeBlock → HomeBlock
 withOutgoing m x = blockOf (x .count) (x .phase) (x .line) (x .control) (pushRow (x .out) m) (x .back)
@@ -72,17 +73,17 @@ moveApplied x ws m = stepOf (m .refusal) (m .kind) (outgoingPut (m .outgoing) (l
 
 -- Taking of tile t, whose NoC1 front is m, and delivery from it, whose NoC3 front is m (all 0: none).
 unfoldable pub takingStep : HomeBlock → ℕ → Row → HomeStep
-takingStep x t m = moveApplied x (m .words) (moves.takeFront (numbersIn x) t (m .n0))
+takingStep x t m = moveApplied x (m .words) (moves.takeFront (numbersIn x) t (messageType m))
 
 unfoldable pub replyStep : HomeBlock → ℕ → Row → HomeStep
-replyStep x t m = moveApplied x (m .words) (moves.acceptReply (numbersIn x) t (m .n0) (m .n2) (m .n3))
+replyStep x t m = moveApplied x (m .words) (moves.acceptReply (numbersIn x) t (messageType m) (messageState m) (messageFlag m))
 
 -- Memory ack: the front of the queue from memory is taken off.
 unfoldable pub withoutAck : HomeBlock → HomeBlock
 withoutAck x = blockOf (x .count) (x .phase) (x .line) (x .control) (x .out) (popRow (x .back))
 
 unfoldable pub memoryAckStep : HomeBlock → HomeStep
-memoryAckStep x = moveApplied (withoutAck x) (x .back .a .words) (moves.memoryAck (numbersIn x) (x .back .a .n0))
+memoryAckStep x = moveApplied (withoutAck x) (x .back .a .words) (moves.memoryAck (numbersIn x) (messageType (x .back .a)))
 
 -- Home eviction answers no message.
 unfoldable pub evictionStep : HomeBlock → HomeStep
@@ -91,13 +92,13 @@ evictionStep x = moveApplied x zeros (moves.evictLine (numbersIn x))
 -- Memory step: LOAD_MEM reads, STORE_MEM replaces; each is acknowledged.
 unfoldable pub withMemory : HomeBlock → List ℕ → Pair → Pair → HomeBlock
 withMemory x mem out back =
-    blockOf (x .count) (x .phase) (x .line) (row (x .control .n0) (x .control .n1) (x .control .n2) (x .control .n3) mem) out back
+    blockOf (x .count) (x .phase) (x .line) (row (controlLastTaken (x .control)) (controlMarks (x .control)) (controlRequester (x .control)) (controlOwed (x .control)) mem) out back
 
 unfoldable pub memoryAnswers : HomeBlock → List ℕ → Row → HomeStep
-memoryAnswers x mem m = cond (eqb (x .back .b .n0) NO-MESSAGE) (stepOf ACCEPTED KIND-SENT (withMemory x mem (popRow (x .out)) (pushRow (x .back) m)) FROM-MEMORY 0 noRow) (refusedStep x QUEUE-FULL)
+memoryAnswers x mem m = cond (eqb (messageType (x .back .b)) NO-MESSAGE) (stepOf ACCEPTED KIND-SENT (withMemory x mem (popRow (x .out)) (pushRow (x .back) m)) FROM-MEMORY 0 noRow) (refusedStep x QUEUE-FULL)
 
 unfoldable pub memoryStep : HomeBlock → HomeStep
 memoryStep x =
-    cond (eqb (x .out .a .n0) NO-MESSAGE) (refusedStep x NOTHING-THERE)
-    (cond (eqb (x .out .a .n0) LOAD-MEM) (memoryAnswers x (x .control .words) (row LOAD-MEM-ACK 0 0 0 (x .control .words)))
+    cond (eqb (messageType (x .out .a)) NO-MESSAGE) (refusedStep x NOTHING-THERE)
+    (cond (eqb (messageType (x .out .a)) LOAD-MEM) (memoryAnswers x (x .control .words) (row LOAD-MEM-ACK 0 0 0 (x .control .words)))
     (memoryAnswers x (x .out .a .words) (row STORE-MEM-ACK 0 0 0 zeros)))

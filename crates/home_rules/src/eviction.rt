@@ -3,6 +3,8 @@ ghost use mathlib.Core.Path.{_≡_};
 ghost use Rattle.home_rules.specs.Moves.{evictShared, evictValid, evictLine};
 use crate::moves::HomeMove;
 use crate::moves::HomeNumbers;
+use crate::moves::NONE;
+use crate::moves::NOT_VALID;
 use crate::moves::WORDS_STAY;
 use layout::codes::DIRECTORY_I;
 use layout::codes::DIRECTORY_S;
@@ -17,10 +19,16 @@ use numbers::types::STORE_FWD;
 fn evict_shared(home: HomeNumbers) -> HomeMove
     ensures { λ s. ⌜ s ≡ evictShared home ⌝ }
 {
-    if home.holders == 0 {
+    if home.holders == NONE {
         crate::moves::leave(home, home.dirty, WORDS_STAY)
     } else {
-        crate::moves::invalidate(home, home.holders, home.holders, PHASE_ACKS_FOR_EVICTION, 0)
+        crate::moves::invalidate(
+            home,
+            home.holders,
+            home.holders,
+            PHASE_ACKS_FOR_EVICTION,
+            NONE,
+        )
     }
 }
 
@@ -31,7 +39,13 @@ fn evict_valid(home: HomeNumbers) -> HomeMove
     match directory {
         DIRECTORY_I => crate::moves::leave(home, home.dirty, WORDS_STAY),
         DIRECTORY_S => evict_shared(home),
-        _ => crate::moves::ask_owner(home, home.holders, PHASE_OWNER_FOR_EVICTION, 0, STORE_FWD),
+        _ => crate::moves::ask_owner(
+            home,
+            home.holders,
+            PHASE_OWNER_FOR_EVICTION,
+            NONE,
+            STORE_FWD,
+        ),
     }
 }
 
@@ -40,7 +54,7 @@ pub fn evict_line(home: HomeNumbers) -> HomeMove
     ensures { λ s. ⌜ s ≡ evictLine home ⌝ }
 {
     if home.phase == PHASE_IDLE {
-        if home.valid == 0 {
+        if home.valid == NOT_VALID {
             crate::moves::refused_move(home, NO_LINE)
         } else {
             evict_valid(home)

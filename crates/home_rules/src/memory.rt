@@ -1,8 +1,10 @@
 // The home accepts the memory's ack.
 ghost use mathlib.Core.Path.{_≡_};
 ghost use Rattle.home_rules.specs.Moves.{loadAcked, storeAcked, memoryAck};
+use crate::moves::CLEAN;
 use crate::moves::HomeMove;
 use crate::moves::HomeNumbers;
+use crate::moves::MISS;
 use crate::moves::WORDS_OF_MESSAGE;
 use layout::codes::PHASE_LOADING_FOR_LOAD;
 use layout::codes::PHASE_LOADING_FOR_STORE;
@@ -21,10 +23,10 @@ fn load_acked(home: HomeNumbers) -> HomeMove
     let phase = home.phase;
     match phase {
         PHASE_LOADING_FOR_LOAD => {
-            crate::moves::grant_owner(home, 0, WORDS_OF_MESSAGE, STATE_E, 1, home.requester)
+            crate::moves::grant_owner(home, CLEAN, WORDS_OF_MESSAGE, STATE_E, MISS, home.requester)
         }
         PHASE_LOADING_FOR_STORE => {
-            crate::moves::grant_owner(home, 0, WORDS_OF_MESSAGE, STATE_M, 1, home.requester)
+            crate::moves::grant_owner(home, CLEAN, WORDS_OF_MESSAGE, STATE_M, MISS, home.requester)
         }
         _ => crate::moves::refused_move(home, MISFIT),
     }

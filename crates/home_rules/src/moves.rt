@@ -33,6 +33,22 @@ pub const WORDS_CLEAR: u64 = 1;
 
 pub const WORDS_OF_MESSAGE: u64 = 2;
 
+// Flags and empty places of the home's numbers.
+pub const NOT_VALID: u64 = 0;
+
+pub const VALID: u64 = 1;
+
+pub const CLEAN: u64 = 0;
+
+pub const DIRTY: u64 = 1;
+
+// no tile, as a number or as a mask
+pub const NONE: u64 = 0;
+
+pub const NO_MISS: u64 = 0;
+
+pub const MISS: u64 = 1;
+
 // The numbers by which the home decides: its phase; valid, dirty, directory and holders (sharers' mask or owner) of the line; last taken,
 // marks, requester and owed tiles; and the type of the second message to memory (none: there is room for it).
 pub struct HomeNumbers {
@@ -140,11 +156,11 @@ pub fn refused_move(home: HomeNumbers, refusal: u64) -> HomeMove
         home,
         WORDS_STAY,
         NO_QUEUE,
-        0,
+        NONE,
         NO_MESSAGE,
         NO_MESSAGE,
         STATE_I,
-        0,
+        NO_MISS,
     )
 }
 
@@ -158,11 +174,11 @@ pub fn silent_move(home: HomeNumbers, source: u64) -> HomeMove
         home,
         source,
         NO_QUEUE,
-        0,
+        NONE,
         NO_MESSAGE,
         NO_MESSAGE,
         STATE_I,
-        0,
+        NO_MISS,
     )
 }
 
@@ -247,11 +263,11 @@ pub fn memory_move(home: HomeNumbers, after: HomeNumbers, source: u64, outgoing:
             after,
             source,
             TO_MEMORY,
-            0,
+            NONE,
             outgoing,
             NO_MESSAGE,
             STATE_I,
-            0,
+            NO_MISS,
         )
     } else {
         refused_move(home, QUEUE_FULL)
@@ -269,8 +285,17 @@ pub fn grant_owner(
 ) -> HomeMove
     ensures { λ s. ⌜ s ≡ grantOwner home dirty source state miss tile ⌝ }
 {
-    let after = with_home(home, PHASE_IDLE, 1, dirty, DIRECTORY_E, tile, 0, 0);
-    forward_move(after, source, masks::add(0, tile), DATA_ACK, state, miss)
+    let after = with_home(
+        home,
+        PHASE_IDLE,
+        VALID,
+        dirty,
+        DIRECTORY_E,
+        tile,
+        NONE,
+        NONE,
+    );
+    forward_move(after, source, masks::add(NONE, tile), DATA_ACK, state, miss)
 }
 
 // DATA_ACK in S to the tile, which joins the sharers.
@@ -278,8 +303,15 @@ pub fn grant_shared(home: HomeNumbers, dirty: u64, source: u64, sharers: u64, ti
     ensures { λ s. ⌜ s ≡ grantShared home dirty source sharers tile ⌝ }
 {
     let all = masks::add(sharers, tile);
-    let after = with_home(home, PHASE_IDLE, 1, dirty, DIRECTORY_S, all, 0, 0);
-    forward_move(after, source, masks::add(0, tile), DATA_ACK, STATE_S, 0)
+    let after = with_home(home, PHASE_IDLE, VALID, dirty, DIRECTORY_S, all, NONE, NONE);
+    forward_move(
+        after,
+        source,
+        masks::add(NONE, tile),
+        DATA_ACK,
+        STATE_S,
+        NO_MISS,
+    )
 }
 
 // A forward to the owner, in this phase, on behalf of the requester.
@@ -292,8 +324,24 @@ pub fn ask_owner(
 ) -> HomeMove
     ensures { λ s. ⌜ s ≡ askOwner home owner phase requester message ⌝ }
 {
-    let after = with_home(home, phase, 1, home.dirty, DIRECTORY_E, owner, requester, 0);
-    forward_move(after, WORDS_STAY, masks::add(0, owner), message, STATE_I, 0)
+    let after = with_home(
+        home,
+        phase,
+        VALID,
+        home.dirty,
+        DIRECTORY_E,
+        owner,
+        requester,
+        NONE,
+    );
+    forward_move(
+        after,
+        WORDS_STAY,
+        masks::add(NONE, owner),
+        message,
+        STATE_I,
+        NO_MISS,
+    )
 }
 
 // INV_FWD to the tiles owed, in this phase, on behalf of the requester. The mask of sharers stays.
@@ -309,14 +357,14 @@ pub fn invalidate(
     let after = with_home(
         home,
         phase,
-        1,
+        VALID,
         home.dirty,
         DIRECTORY_S,
         sharers,
         requester,
         owed,
     );
-    forward_move(after, WORDS_STAY, owed, INV_FWD, STATE_I, 0)
+    forward_move(after, WORDS_STAY, owed, INV_FWD, STATE_I, NO_MISS)
 }
 
 // The line is dropped, and the home idle.
@@ -324,7 +372,16 @@ pub fn dropped(home: HomeNumbers) -> HomeMove
     ensures { λ s. ⌜ s ≡ dropped home ⌝ }
 {
     silent_move(
-        with_home(home, PHASE_IDLE, 0, 0, DIRECTORY_I, 0, 0, 0),
+        with_home(
+            home,
+            PHASE_IDLE,
+            NOT_VALID,
+            CLEAN,
+            DIRECTORY_I,
+            NONE,
+            NONE,
+            NONE,
+        ),
         WORDS_CLEAR,
     )
 }
@@ -333,10 +390,19 @@ pub fn dropped(home: HomeNumbers) -> HomeMove
 pub fn leave(home: HomeNumbers, dirty: u64, source: u64) -> HomeMove
     ensures { λ s. ⌜ s ≡ leave home dirty source ⌝ }
 {
-    if dirty == 0 {
+    if dirty == CLEAN {
         dropped(home)
     } else {
-        let after = with_home(home, PHASE_STORING, 1, 1, DIRECTORY_I, 0, 0, 0);
+        let after = with_home(
+            home,
+            PHASE_STORING,
+            VALID,
+            DIRTY,
+            DIRECTORY_I,
+            NONE,
+            NONE,
+            NONE,
+        );
         memory_move(home, after, source, STORE_MEM)
     }
 }

@@ -1,8 +1,12 @@
 // The home accepts what a tile's NoC3 brings: a write-back, or an ack.
 ghost use mathlib.Core.Path.{_≡_};
 ghost use Rattle.home_rules.specs.Moves.{writeBackStored, writeBackIdle, writeBackAsked, writeBackUnmarked, writeBack, ackDirty, ackSource, ownerShares, loadAck, ownerGivesUp, ownerLeaves, storeAck, cleared, oneLess, owedAck, invAck, acceptReply};
+use crate::moves::DIRTY;
 use crate::moves::HomeMove;
 use crate::moves::HomeNumbers;
+use crate::moves::NO_MISS;
+use crate::moves::NONE;
+use crate::moves::VALID;
 use crate::moves::WORDS_OF_MESSAGE;
 use crate::moves::WORDS_STAY;
 use layout::codes::DIRECTORY_E;
@@ -30,8 +34,8 @@ fn write_back_stored(home: HomeNumbers, tile: u64, directory: u64, holders: u64)
     let after = crate::moves::with_home(
         home,
         home.phase,
-        1,
-        1,
+        VALID,
+        DIRTY,
         directory,
         holders,
         home.requester,
@@ -49,7 +53,7 @@ fn write_back_idle(home: HomeNumbers, tile: u64) -> HomeMove
 {
     if home.directory == DIRECTORY_E {
         if home.holders == tile {
-            write_back_stored(home, tile, DIRECTORY_I, 0)
+            write_back_stored(home, tile, DIRECTORY_I, NONE)
         } else {
             crate::moves::refused_move(home, MISFIT)
         }
@@ -113,7 +117,7 @@ fn owner_shares(home: HomeNumbers, owner: u64, requester: u64, flag: u64) -> Hom
 {
     let dirty = ack_dirty(flag, home.dirty);
     let source = ack_source(flag);
-    let owners = masks::add(0, owner);
+    let owners = masks::add(NONE, owner);
     crate::moves::grant_shared(home, dirty, source, owners, requester)
 }
 
@@ -123,7 +127,14 @@ fn load_ack(home: HomeNumbers, tile: u64, state: u64, flag: u64) -> HomeMove
     if home.phase == PHASE_OWNER_FOR_LOAD {
         if home.holders == tile {
             if state == STATE_I {
-                crate::moves::grant_owner(home, home.dirty, WORDS_STAY, STATE_E, 0, home.requester)
+                crate::moves::grant_owner(
+                    home,
+                    home.dirty,
+                    WORDS_STAY,
+                    STATE_E,
+                    NO_MISS,
+                    home.requester,
+                )
             } else {
                 owner_shares(home, home.holders, home.requester, flag)
             }
@@ -144,7 +155,7 @@ fn owner_gives_up(home: HomeNumbers, tile: u64, flag: u64) -> HomeMove
             ack_dirty(flag, home.dirty),
             ack_source(flag),
             STATE_M,
-            0,
+            NO_MISS,
             home.requester,
         )
     } else {
@@ -178,7 +189,14 @@ fn cleared(home: HomeNumbers) -> HomeMove
     ensures { λ s. ⌜ s ≡ cleared home ⌝ }
 {
     if home.phase == PHASE_ACKS_FOR_STORE {
-        crate::moves::grant_owner(home, home.dirty, WORDS_STAY, STATE_M, 0, home.requester)
+        crate::moves::grant_owner(
+            home,
+            home.dirty,
+            WORDS_STAY,
+            STATE_M,
+            NO_MISS,
+            home.requester,
+        )
     } else {
         crate::moves::leave(home, home.dirty, WORDS_STAY)
     }
@@ -188,7 +206,7 @@ fn cleared(home: HomeNumbers) -> HomeMove
 fn one_less(home: HomeNumbers, owed: u64) -> HomeMove
     ensures { λ s. ⌜ s ≡ oneLess home owed ⌝ }
 {
-    if owed == 0 {
+    if owed == NONE {
         cleared(home)
     } else {
         crate::moves::silent_move(

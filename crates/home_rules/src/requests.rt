@@ -1,8 +1,12 @@
 // The home serves the request at the front of a tile's NoC1 (01's taking).
 ghost use mathlib.Core.Path.{_≡_};
 ghost use Rattle.home_rules.specs.Moves.{loadLine, serveShared, serveOwned, serveLine, serve, takeGuard, takeFront};
+use crate::moves::CLEAN;
 use crate::moves::HomeMove;
 use crate::moves::HomeNumbers;
+use crate::moves::NO_MISS;
+use crate::moves::NONE;
+use crate::moves::NOT_VALID;
 use crate::moves::WORDS_CLEAR;
 use crate::moves::WORDS_STAY;
 use layout::codes::DIRECTORY_I;
@@ -30,24 +34,24 @@ fn load_line(home: HomeNumbers, tile: u64, request: u64) -> HomeMove
         let after = crate::moves::with_home(
             after,
             PHASE_LOADING_FOR_LOAD,
-            0,
-            0,
+            NOT_VALID,
+            CLEAN,
             DIRECTORY_I,
-            0,
+            NONE,
             tile,
-            0,
+            NONE,
         );
         crate::moves::memory_move(home, after, WORDS_CLEAR, LOAD_MEM)
     } else {
         let after = crate::moves::with_home(
             after,
             PHASE_LOADING_FOR_STORE,
-            0,
-            0,
+            NOT_VALID,
+            CLEAN,
             DIRECTORY_I,
-            0,
+            NONE,
             tile,
-            0,
+            NONE,
         );
         crate::moves::memory_move(home, after, WORDS_CLEAR, LOAD_MEM)
     }
@@ -60,8 +64,8 @@ fn serve_shared(home: HomeNumbers, tile: u64, request: u64) -> HomeMove
         crate::moves::grant_shared(home, home.dirty, WORDS_STAY, home.holders, tile)
     } else {
         let owed = masks::del(home.holders, tile);
-        if owed == 0 {
-            crate::moves::grant_owner(home, home.dirty, WORDS_STAY, STATE_M, 0, tile)
+        if owed == NONE {
+            crate::moves::grant_owner(home, home.dirty, WORDS_STAY, STATE_M, NO_MISS, tile)
         } else {
             crate::moves::invalidate(home, home.holders, owed, PHASE_ACKS_FOR_STORE, tile)
         }
@@ -73,7 +77,7 @@ fn serve_owned(home: HomeNumbers, tile: u64, request: u64) -> HomeMove
 {
     if home.holders == tile {
         let state = crate::moves::grant_state(request);
-        crate::moves::grant_owner(home, home.dirty, WORDS_STAY, state, 0, tile)
+        crate::moves::grant_owner(home, home.dirty, WORDS_STAY, state, NO_MISS, tile)
     } else {
         if request == LOAD_REQ {
             crate::moves::ask_owner(home, home.holders, PHASE_OWNER_FOR_LOAD, tile, LOAD_FWD)
@@ -93,7 +97,7 @@ fn serve_line(home: HomeNumbers, tile: u64, request: u64) -> HomeMove
             home.dirty,
             WORDS_STAY,
             crate::moves::grant_state(request),
-            0,
+            NO_MISS,
             tile,
         ),
         DIRECTORY_S => serve_shared(home, tile, request),
@@ -105,7 +109,7 @@ fn serve_line(home: HomeNumbers, tile: u64, request: u64) -> HomeMove
 fn serve(home: HomeNumbers, tile: u64, request: u64) -> HomeMove
     ensures { λ s. ⌜ s ≡ serve home tile request ⌝ }
 {
-    if home.valid == 0 {
+    if home.valid == NOT_VALID {
         load_line(home, tile, request)
     } else {
         serve_line(

@@ -51,7 +51,7 @@ pub record Finishes (k : List ℕ) (n : ℕ) (s : HomeStep) (m : List ℕ) : Typ
 -- A home step s committed to words l of n tiles, with k the words that it is written over, a the answer and m the words after it:
 -- refused, refused 9 for want of room, or done.
 pub record Committed (l k : List ℕ) (n v : ℕ) (s : HomeStep) (a : Answer) (m : List ℕ) : Type 0 where
-  pub stops : (s .refusal ≡ ACCEPTED → ⊥) → (a ≡ refusal (s .refusal)) × (m ≡ l)
+  pub refusing : (s .refusal ≡ ACCEPTED → ⊥) → (a ≡ refusal (s .refusal)) × (m ≡ l)
   pub no-room : s .refusal ≡ ACCEPTED → hasRooms true l HOME-WORDS 0 (s .to) n ≡ false → (a ≡ refusal QUEUE-FULL) × (m ≡ l)
   pub done : s .refusal ≡ ACCEPTED → hasRooms true l HOME-WORDS 0 (s .to) n ≡ true →
       (a ≡ homeAnswer s v) × Finishes k n s m

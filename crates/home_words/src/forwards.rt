@@ -5,8 +5,8 @@ ghost use Prim.Native.Nat.{_+_, _*_, _≤_, _<_};
 ghost use lib.ListN.{length};
 ghost use Rattle.numbers.specs.Limits.{MOST-TILES, LINE-WORDS};
 ghost use Rattle.lists.specs.Over.{over};
-ghost use Rattle.layout.specs.Places.{HOME-WORDS, TILE-WORDS};
-ghost use Rattle.layout.specs.Blocks.{benchWords, tileBlockAt, tileBlockWords};
+ghost use Rattle.layout.specs.Places.{HOME-WORDS};
+ghost use Rattle.layout.specs.Blocks.{benchWords, tilePlace, tileBlockAt, tileBlockWords};
 ghost use Rattle.layout.specs.Queues.{hasRoom};
 ghost use Rattle.home_words.specs.Forwards.{hasRooms, forwardPut, forwardPutAll};
 use layout::Row;
@@ -16,7 +16,7 @@ use layout::places::TILE_WORDS;
 
 fn has_room_for(words: &[u64], tile: u64) -> bool
     requires { ⌜ (benchWords (tile + 1) ≤ length (now words)) × (tile < MOST-TILES) ⌝ }
-    ensures { λ r. ⌜ r ≡ hasRoom (tileBlockAt (now (words .entry)) (HOME-WORDS + TILE-WORDS * tile) .noc2) ⌝ }
+    ensures { λ r. ⌜ r ≡ hasRoom (tileBlockAt (now (words .entry)) (tilePlace tile) .noc2) ⌝ }
 {
     layout::has_room_at(words, HOME_WORDS + TILE_WORDS * (tile as usize) + TILE_NOC2)
 }
@@ -37,7 +37,7 @@ pub fn has_rooms(words: &[u64], count: u64, to: u64) -> bool
 
 fn send_one(words: &mut [u64], tile: u64, message: Row)
     requires { ⌜ (benchWords (tile + 1) ≤ length (now words)) × (tile < MOST-TILES) ⌝ }
-    ensures { λ _. ⌜ now (words .exit) ≡ over (now (words .entry)) (HOME-WORDS + TILE-WORDS * tile) (tileBlockWords (forwardPut message (tileBlockAt (now (words .entry)) (HOME-WORDS + TILE-WORDS * tile)))) ⌝ }
+    ensures { λ _. ⌜ now (words .exit) ≡ over (now (words .entry)) (tilePlace tile) (tileBlockWords (forwardPut message (tileBlockAt (now (words .entry)) (tilePlace tile)))) ⌝ }
 {
     layout::push_at(
         words,
