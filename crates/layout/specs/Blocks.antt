@@ -15,6 +15,62 @@ use Rattle.layout.specs.declared.rows.HomeBlock.{HomeBlock}
 abbrev pub benchWords : ℕ → ℕ
 benchWords n = HOME-WORDS + TILE-WORDS * n
 
+-- where tile t's block stands
+abbrev pub tilePlace : ℕ → ℕ
+tilePlace t = HOME-WORDS + TILE-WORDS * t
+
+-- A row's four numbers by what the row is (docs/LAYOUT.md): a message;
+abbrev pub messageType : Row → ℕ
+messageType r = r .n0
+
+abbrev pub messageWord : Row → ℕ
+messageWord r = r .n1
+
+abbrev pub messageState : Row → ℕ
+messageState r = r .n2
+
+abbrev pub messageFlag : Row → ℕ
+messageFlag r = r .n3
+
+-- the head of a tile;
+abbrev pub headState : Row → ℕ
+headState r = r .n0
+
+abbrev pub headWaiting : Row → ℕ
+headWaiting r = r .n1
+
+abbrev pub headWord : Row → ℕ
+headWord r = r .n2
+
+abbrev pub headValue : Row → ℕ
+headValue r = r .n3
+
+-- the line of the home;
+abbrev pub lineValid : Row → ℕ
+lineValid r = r .n0
+
+abbrev pub lineDirty : Row → ℕ
+lineDirty r = r .n1
+
+abbrev pub lineDirectoryNumber : Row → ℕ
+lineDirectoryNumber r = r .n2
+
+abbrev pub lineHolders : Row → ℕ
+lineHolders r = r .n3
+
+-- the control row, with the memory's words.
+abbrev pub controlLastTaken : Row → ℕ
+controlLastTaken r = r .n0
+
+abbrev pub controlMarks : Row → ℕ
+controlMarks r = r .n1
+
+abbrev pub controlRequester : Row → ℕ
+controlRequester r = r .n2
+
+abbrev pub controlOwed : Row → ℕ
+controlOwed r = r .n3
+
 -- reading, at a place of a list
 unfoldable pub rowAt : List ℕ → ℕ → Row
 rowAt l i =

@@ -5,6 +5,7 @@ use mathlib.Core.List.{List, [], _∷_}
 use lib.Dec.{eqb}
 use Rattle.numbers.specs.Types.{NO-MESSAGE}
 use Rattle.numbers.specs.Queues.{NOC1, NOC2, NOC3, TO-MEMORY, FROM-MEMORY}
+use Rattle.layout.specs.Blocks.{messageType, controlLastTaken, controlMarks, controlRequester, controlOwed}
 use Rattle.layout.specs.declared.rows.Row.{Row}
 use Rattle.layout.specs.declared.rows.Pair.{Pair}
 use Rattle.layout.specs.declared.rows.TileBlock.{TileBlock}
@@ -34,8 +35,8 @@ canonMessage queue r =
 
 unfoldable pub canonQueue : ℕ → Pair → Pair
 canonQueue queue q =
-    cond (eqb (q .a .n0) NO-MESSAGE) (record { a = noRow; b = noRow })
-    (cond (eqb (q .b .n0) NO-MESSAGE) (record { a = canonMessage queue (q .a); b = noRow }) (record { a = canonMessage queue (q .a); b = canonMessage queue (q .b) }))
+    cond (eqb (messageType (q .a)) NO-MESSAGE) (record { a = noRow; b = noRow })
+    (cond (eqb (messageType (q .b)) NO-MESSAGE) (record { a = canonMessage queue (q .a); b = noRow }) (record { a = canonMessage queue (q .a); b = canonMessage queue (q .b) }))
 
 unfoldable pub tileOk : TileBlock → Bool
 tileOk x =
@@ -44,10 +45,10 @@ tileOk x =
 
 -- the home's control row, with phase p and the line's row x
 unfoldable pub canonControl : ℕ → ℕ → Row → Row → Row
-canonControl n p x k = row (k .n0 % n) (k .n1 % 2 ^ n) (requester (decHome n p x (k .n2) (k .n3))) (owedTiles (decHome n p x (k .n2) (k .n3))) (k .words)
+canonControl n p x k = row (controlLastTaken k % n) (controlMarks k % 2 ^ n) (requester (decHome n p x (controlRequester k) (controlOwed k))) (owedTiles (decHome n p x (controlRequester k) (controlOwed k))) (k .words)
 
 unfoldable pub homeOk : HomeBlock → Bool
 homeOk x =
-    eqb (phaseNumber (decHome (x .count) (x .phase) (x .line) (x .control .n2) (x .control .n3))) (x .phase)
-    && (sameRow (encLine (lineOf (decHome (x .count) (x .phase) (x .line) (x .control .n2) (x .control .n3)))) (x .line)
+    eqb (phaseNumber (decHome (x .count) (x .phase) (x .line) (controlRequester (x .control)) (controlOwed (x .control)))) (x .phase)
+    && (sameRow (encLine (lineOf (decHome (x .count) (x .phase) (x .line) (controlRequester (x .control)) (controlOwed (x .control))))) (x .line)
     && (sameRow (canonControl (x .count) (x .phase) (x .line) (x .control)) (x .control) && (samePair (canonQueue TO-MEMORY (x .out)) (x .out) && samePair (canonQueue FROM-MEMORY (x .back)) (x .back))))

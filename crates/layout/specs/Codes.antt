@@ -1,8 +1,8 @@
 -- The numbers by which a bench's words say the home's phase, the directory's state and what a tile waits for.
 use Prim.Native.Nat.{ℕ}
 
--- The home's phase: idle; waiting for memory load, for the owner, for invalidations (on behalf of a load, a store,
--- an eviction), for memory store.
+-- The home's phase: idle; waiting for memory load, for the owner or for invalidations, each by what the home acts for (a load, a store or an
+-- eviction, as far as 01 has it); for memory store.
 abbrev pub PHASE-IDLE : ℕ
 PHASE-IDLE = 0
 

@@ -21,7 +21,7 @@ pub fn write_message(
 ) -> Written
     ensures { λ r. ⌜ (r ≡ writtenOf (messageFields line queue tile message) (length (messageData message)) (length (now (buffer .entry))) at) × (now (buffer .exit) ≡ bufferOf (messageFields line queue tile message) (messageData message) (now (buffer .entry)) at) ⌝ }
 {
-    let row = flits::row(message.n0);
+    let row = flits::type_row(message.n0);
     let header = fields::message_header(row, line, queue, tile, message);
     let count = fields::data_count(row, message.n3);
     let words = message.words;

@@ -11,6 +11,7 @@ use Rattle.flits.specs.Table.{rowOf, headerExtra}
 use Rattle.flits.specs.Reading.{readOf, dataOf, readAccepted}
 use Rattle.flits.specs.Writing.{writtenOf, bufferOf}
 use Rattle.protocol.specs.Parts.{Message, Bench, Call, accepted}
+use Rattle.layout.specs.Blocks.{messageType}
 use Rattle.layout.specs.declared.rows.Row.{Row}
 use Rattle.calls.specs.Calls.{stepOn, answerTo, afterCall}
 use Rattle.messages.specs.Queues.{sentQueues}
@@ -36,13 +37,13 @@ pub record LineAddress (line : ℕ) : Type 0 where
 
 -- the flits that the message m takes
 abbrev pub flitCount : Row → ℕ
-flitCount m = headerExtra (rowOf (m .n0)) + length (messageData m) + 1
+flitCount m = headerExtra (rowOf (messageType m)) + length (messageData m) + 1
 
 -- The message m on queue q of tile t, written at the place `at` of the buffer b: accepted, with so many flits; read at that place
 -- it has its fields and its data; and these are all of the message.
 pub record ReadsBack (line q t : ℕ) (m : Row) (b : List ℕ) (at : ℕ) : Type 0 where
   pub written : writtenOf (messageFields line q t m) (length (messageData m)) (length b) at ≡ record { refusal = ACCEPTED; flits = flitCount m }
-  pub fields : readOf (drop at (bufferOf (messageFields line q t m) (messageData m) b at)) ≡ readAccepted (messageFields line q t m) (flitCount m) (headerExtra (rowOf (m .n0)) + 1)
+  pub fields : readOf (drop at (bufferOf (messageFields line q t m) (messageData m) b at)) ≡ readAccepted (messageFields line q t m) (flitCount m) (headerExtra (rowOf (messageType m)) + 1)
   pub words : dataOf (drop at (bufferOf (messageFields line q t m) (messageData m) b at)) ≡ messageData m
   pub message : keptRow (messageFields line q t m) (messageData m) ≡ m
 

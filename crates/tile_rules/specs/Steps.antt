@@ -6,7 +6,10 @@ use lib.Dec.{eqb}
 use lib.ListN.{getD, set}
 use Rattle.numbers.specs.Types.{WB-REQ, WBGUARD-REQ}
 use Rattle.numbers.specs.States.{STATE-I, STATE-M}
+use Rattle.numbers.specs.Kinds.{KIND-OTHER}
+use Rattle.numbers.specs.Queues.{NO-QUEUE}
 use Rattle.numbers.specs.Refusals.{ACCEPTED}
+use Rattle.layout.specs.Blocks.{messageType, messageState, headState, headWaiting, headWord, headValue}
 use Rattle.layout.specs.Codes.{WAITS-FOR-NOTHING}
 use Rattle.layout.specs.declared.rows.Row.{Row}
 use Rattle.layout.specs.declared.rows.Pair.{Pair}
@@ -21,7 +24,7 @@ use Rattle.tile_rules.specs.Moves as moves
 use Rattle.tile_rules.specs.Moves.{numbersOf}
 
 abbrev pub refusedStep : ℕ → TileBlock → TileStep
-refusedStep n x = record { refusal = n; kind = 0; value = 0; sent = 0; tile = x }
+refusedStep n x = record { refusal = n; kind = KIND-OTHER; value = 0; sent = NO-QUEUE; tile = x }
 
 -- s: on which queues it sent
 abbrev pub acceptedStep : ℕ → ℕ → ℕ → TileBlock → TileStep
@@ -33,17 +36,17 @@ tileBlock h p q r = record { head = h; noc1 = p; noc2 = q; noc3 = r }
 
 -- the numbers of a block by which a tile decides
 unfoldable pub numbersIn : TileBlock → TileNumbers
-numbersIn x = numbersOf (x .head .n0) (x .head .n1) (x .head .n2) (x .head .n3) (x .noc1 .b .n0) (x .noc2 .a .n0) (x .noc2 .a .n2) (x .noc3 .b .n0)
+numbersIn x = numbersOf (headState (x .head)) (headWaiting (x .head)) (headWord (x .head)) (headValue (x .head)) (messageType (x .noc1 .b)) (messageType (x .noc2 .a)) (messageState (x .noc2 .a)) (messageType (x .noc3 .b))
 
 -- a block with other numbers of its head; with another state; with other words; with a message more on NoC1, one less on NoC2, one more on NoC3
 abbrev pub withNumbers : ℕ → ℕ → ℕ → ℕ → TileBlock → TileBlock
 withNumbers a b c d x = tileBlock (row a b c d (x .head .words)) (x .noc1) (x .noc2) (x .noc3)
 
 abbrev pub withState : ℕ → TileBlock → TileBlock
-withState s x = withNumbers s (x .head .n1) (x .head .n2) (x .head .n3) x
+withState s x = withNumbers s (headWaiting (x .head)) (headWord (x .head)) (headValue (x .head)) x
 
 abbrev pub withLine : List ℕ → TileBlock → TileBlock
-withLine ws x = tileBlock (row (x .head .n0) (x .head .n1) (x .head .n2) (x .head .n3) ws) (x .noc1) (x .noc2) (x .noc3)
+withLine ws x = tileBlock (row (headState (x .head)) (headWaiting (x .head)) (headWord (x .head)) (headValue (x .head)) ws) (x .noc1) (x .noc2) (x .noc3)
 
 abbrev pub withNoc1 : Pair → TileBlock → TileBlock
 withNoc1 q x = tileBlock (x .head) q (x .noc2) (x .noc3)
@@ -57,7 +60,7 @@ withNoc3 q x = tileBlock (x .head) (x .noc1) (x .noc2) q
 -- the acts: a request, and the tile waits; a word stored; the line dropped, and written back; a forward answered; the line comes in for a
 -- load, and for a store
 abbrev pub requestMade : ℕ → ℕ → ℕ → ℕ → TileBlock → TileBlock
-requestMade k u w v x = withNoc1 (pushNumbers (x .noc1) k w 0 0) (withNumbers (x .head .n0) u w v x)
+requestMade k u w v x = withNoc1 (pushNumbers (x .noc1) k w 0 0) (withNumbers (headState (x .head)) u w v x)
 
 abbrev pub withWord : ℕ → ℕ → TileBlock → TileBlock
 withWord w v x = withLine (set (x .head .words) w v) x

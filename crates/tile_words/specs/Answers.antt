@@ -2,11 +2,13 @@
 use Prim.Native.Nat.{ℕ}
 use mathlib.Core.Bool.{cond}
 use lib.Dec.{eqb}
+use Rattle.numbers.specs.Kinds.{KIND-OTHER}
+use Rattle.numbers.specs.Queues.{NO-QUEUE}
 use Rattle.numbers.specs.Refusals.{ACCEPTED}
 use Rattle.tile_rules.specs.declared.moves.StepAnswer.{StepAnswer}
 
 abbrev pub refusedAnswer : ℕ → StepAnswer
-refusedAnswer n = record { refusal = n; kind = 0; value = 0; sent = 0 }
+refusedAnswer n = record { refusal = n; kind = KIND-OTHER; value = 0; sent = NO-QUEUE }
 
 abbrev pub acceptedAnswer : ℕ → ℕ → ℕ → StepAnswer
 acceptedAnswer k v s = record { refusal = ACCEPTED; kind = k; value = v; sent = s }

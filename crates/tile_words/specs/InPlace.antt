@@ -13,18 +13,18 @@ abbrev pub answerOfStep : TileStep → StepAnswer
 answerOfStep s = record { refusal = s .refusal; kind = s .kind; value = s .value; sent = s .sent }
 
 -- m is l with the block x from place i on
-pub record Put (l : List ℕ) (i : ℕ) (x : TileBlock) (m : List ℕ) : Type 0 where
+pub record TilePut (l : List ℕ) (i : ℕ) (x : TileBlock) (m : List ℕ) : Type 0 where
   pub words : m ≡ over l i (tileBlockWords x)
   pub full : TileFull x
 
 -- the step s of the tile at place i of l answers r, and m are the words after it
 pub record Stepped (l : List ℕ) (i : ℕ) (s : TileStep) (r : StepAnswer) (m : List ℕ) : Type 0 where
   pub answer : r ≡ answerOfStep s
-  pub put : Put l i (s .tile) m
+  pub put : TilePut l i (s .tile) m
 
 -- both for what f makes of the tile that stands there
-abbrev pub Puts : List ℕ → ℕ → (TileBlock → TileBlock) → List ℕ → Type 0
-Puts l i f m = Put l i (f (tileBlockAt l i)) m
+abbrev pub PutsTile : List ℕ → ℕ → (TileBlock → TileBlock) → List ℕ → Type 0
+PutsTile l i f m = TilePut l i (f (tileBlockAt l i)) m
 
 abbrev pub Steps : List ℕ → ℕ → (TileBlock → TileStep) → StepAnswer → List ℕ → Type 0
 Steps l i f r m = Stepped l i (f (tileBlockAt l i)) r m

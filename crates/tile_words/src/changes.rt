@@ -4,7 +4,7 @@ ghost use Prim.Native.Nat.{_+_, _≤_};
 ghost use lib.ListN.{length};
 ghost use Rattle.layout.specs.Places.{TILE-WORDS};
 ghost use Rattle.tile_rules.specs.Steps.{requestMade, wordStored, lineDropped, lineWrittenBack, replyPut, stateAfterReply, forwardAnswered, lineFilled, loadFilled, storeFilled};
-ghost use Rattle.tile_words.specs.InPlace.{Puts};
+ghost use Rattle.tile_words.specs.InPlace.{PutsTile};
 use layout::codes::WAITS_FOR_NOTHING;
 use layout::places::ROW_DATA;
 use layout::places::TILE_LINE;
@@ -19,7 +19,7 @@ use numbers::types::WBGUARD_REQ;
 
 pub fn make_request(words: &mut [u64], at: usize, message: u64, waits: u64, word: u64, value: u64)
     requires { ⌜ at + TILE-WORDS ≤ length (now words) ⌝ }
-    ensures { λ _. ⌜ Puts (now (words .entry)) at (requestMade message waits word value) (now (words .exit)) ⌝ }
+    ensures { λ _. ⌜ PutsTile (now (words .entry)) at (requestMade message waits word value) (now (words .exit)) ⌝ }
 {
     let state = words[at];
     crate::fields::write_numbers(words, at, state, waits, word, value);
@@ -28,7 +28,7 @@ pub fn make_request(words: &mut [u64], at: usize, message: u64, waits: u64, word
 
 pub fn store_word(words: &mut [u64], at: usize, word: u64, value: u64)
     requires { ⌜ at + TILE-WORDS ≤ length (now words) ⌝ }
-    ensures { λ _. ⌜ Puts (now (words .entry)) at (wordStored word value) (now (words .exit)) ⌝ }
+    ensures { λ _. ⌜ PutsTile (now (words .entry)) at (wordStored word value) (now (words .exit)) ⌝ }
 {
     crate::fields::write_state(words, at, STATE_M);
     crate::fields::write_word(words, at, word, value);
@@ -36,7 +36,7 @@ pub fn store_word(words: &mut [u64], at: usize, word: u64, value: u64)
 
 pub fn drop_line(words: &mut [u64], at: usize)
     requires { ⌜ at + TILE-WORDS ≤ length (now words) ⌝ }
-    ensures { λ _. ⌜ Puts (now (words .entry)) at lineDropped (now (words .exit)) ⌝ }
+    ensures { λ _. ⌜ PutsTile (now (words .entry)) at lineDropped (now (words .exit)) ⌝ }
 {
     crate::fields::write_state(words, at, STATE_I);
     crate::fields::write_line(words, at, [0; LINE_LENGTH]);
@@ -45,7 +45,7 @@ pub fn drop_line(words: &mut [u64], at: usize)
 // WB_REQ with the line's words, then its guard.
 pub fn write_back(words: &mut [u64], at: usize)
     requires { ⌜ at + TILE-WORDS ≤ length (now words) ⌝ }
-    ensures { λ _. ⌜ Puts (now (words .entry)) at lineWrittenBack (now (words .exit)) ⌝ }
+    ensures { λ _. ⌜ PutsTile (now (words .entry)) at lineWrittenBack (now (words .exit)) ⌝ }
 {
     let line = layout::read_eight(words, at + TILE_LINE);
     layout::push_at(words, at + TILE_NOC3, layout::row_of(WB_REQ, 0, 0, 0, line));
@@ -56,7 +56,7 @@ pub fn write_back(words: &mut [u64], at: usize)
 // An ack, with the line's words where the flag is not 0.
 fn put_reply(words: &mut [u64], at: usize, message: u64, reported: u64, flag: u64)
     requires { ⌜ at + TILE-WORDS ≤ length (now words) ⌝ }
-    ensures { λ _. ⌜ Puts (now (words .entry)) at (replyPut message reported flag) (now (words .exit)) ⌝ }
+    ensures { λ _. ⌜ PutsTile (now (words .entry)) at (replyPut message reported flag) (now (words .exit)) ⌝ }
 {
     if flag == 0 {
         layout::push_numbers_at(words, at + TILE_NOC3, message, 0, reported, 0);
@@ -70,10 +70,10 @@ fn put_reply(words: &mut [u64], at: usize, message: u64, reported: u64, flag: u6
     }
 }
 
-// The state after an answer; in I the line is gone.
+// The state after a reply; in I the line is gone.
 fn set_state_after_reply(words: &mut [u64], at: usize, state: u64)
     requires { ⌜ at + TILE-WORDS ≤ length (now words) ⌝ }
-    ensures { λ _. ⌜ Puts (now (words .entry)) at (stateAfterReply state) (now (words .exit)) ⌝ }
+    ensures { λ _. ⌜ PutsTile (now (words .entry)) at (stateAfterReply state) (now (words .exit)) ⌝ }
 {
     if state == STATE_I {
         drop_line(words, at);
@@ -91,7 +91,7 @@ pub fn answer_forward(
     flag: u64,
 )
     requires { ⌜ at + TILE-WORDS ≤ length (now words) ⌝ }
-    ensures { λ _. ⌜ Puts (now (words .entry)) at (forwardAnswered state message reported flag) (now (words .exit)) ⌝ }
+    ensures { λ _. ⌜ PutsTile (now (words .entry)) at (forwardAnswered state message reported flag) (now (words .exit)) ⌝ }
 {
     put_reply(words, at, message, reported, flag);
     set_state_after_reply(words, at, state);
@@ -101,7 +101,7 @@ pub fn answer_forward(
 // The words of the front message of NoC2, in the state; nothing waits any more.
 fn fill_line(words: &mut [u64], at: usize, state: u64)
     requires { ⌜ at + TILE-WORDS ≤ length (now words) ⌝ }
-    ensures { λ _. ⌜ Puts (now (words .entry)) at (lineFilled state) (now (words .exit)) ⌝ }
+    ensures { λ _. ⌜ PutsTile (now (words .entry)) at (lineFilled state) (now (words .exit)) ⌝ }
 {
     let line = layout::read_eight(words, at + TILE_NOC2 + ROW_DATA);
     crate::fields::write_numbers(words, at, state, WAITS_FOR_NOTHING, 0, 0);
@@ -110,7 +110,7 @@ fn fill_line(words: &mut [u64], at: usize, state: u64)
 
 pub fn fill_load(words: &mut [u64], at: usize, state: u64)
     requires { ⌜ at + TILE-WORDS ≤ length (now words) ⌝ }
-    ensures { λ _. ⌜ Puts (now (words .entry)) at (loadFilled state) (now (words .exit)) ⌝ }
+    ensures { λ _. ⌜ PutsTile (now (words .entry)) at (loadFilled state) (now (words .exit)) ⌝ }
 {
     fill_line(words, at, state);
     layout::pop_at(words, at + TILE_NOC2);
@@ -118,7 +118,7 @@ pub fn fill_load(words: &mut [u64], at: usize, state: u64)
 
 pub fn fill_store(words: &mut [u64], at: usize, word: u64, value: u64)
     requires { ⌜ at + TILE-WORDS ≤ length (now words) ⌝ }
-    ensures { λ _. ⌜ Puts (now (words .entry)) at (storeFilled word value) (now (words .exit)) ⌝ }
+    ensures { λ _. ⌜ PutsTile (now (words .entry)) at (storeFilled word value) (now (words .exit)) ⌝ }
 {
     fill_line(words, at, STATE_M);
     crate::fields::write_word(words, at, word, value);

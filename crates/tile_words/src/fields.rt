@@ -5,7 +5,7 @@ ghost use lib.ListN.{length, getD};
 ghost use Rattle.layout.specs.Places.{TILE-WORDS};
 ghost use Rattle.layout.specs.Blocks.{tileBlockAt};
 ghost use Rattle.tile_rules.specs.Steps.{numbersIn, withNumbers, withState, withLine, withWord};
-ghost use Rattle.tile_words.specs.InPlace.{Puts};
+ghost use Rattle.tile_words.specs.InPlace.{PutsTile};
 use layout::places::MESSAGE_STATE;
 use layout::places::SECOND;
 use layout::places::TILE_LINE;
@@ -37,21 +37,21 @@ pub fn read_numbers(words: &[u64], at: usize) -> TileNumbers
 
 pub fn write_state(words: &mut [u64], at: usize, state: u64)
     requires { ⌜ at + TILE-WORDS ≤ length (now words) ⌝ }
-    ensures { λ _. ⌜ Puts (now (words .entry)) at (withState state) (now (words .exit)) ⌝ }
+    ensures { λ _. ⌜ PutsTile (now (words .entry)) at (withState state) (now (words .exit)) ⌝ }
 {
     words[at] = state;
 }
 
 pub fn write_numbers(words: &mut [u64], at: usize, state: u64, waits: u64, word: u64, value: u64)
     requires { ⌜ at + TILE-WORDS ≤ length (now words) ⌝ }
-    ensures { λ _. ⌜ Puts (now (words .entry)) at (withNumbers state waits word value) (now (words .exit)) ⌝ }
+    ensures { λ _. ⌜ PutsTile (now (words .entry)) at (withNumbers state waits word value) (now (words .exit)) ⌝ }
 {
     layout::write_four(words, at, state, waits, word, value);
 }
 
 pub fn write_line(words: &mut [u64], at: usize, line: [u64; LINE_LENGTH])
     requires { ⌜ at + TILE-WORDS ≤ length (now words) ⌝ }
-    ensures { λ _. ⌜ Puts (now (words .entry)) at (withLine line) (now (words .exit)) ⌝ }
+    ensures { λ _. ⌜ PutsTile (now (words .entry)) at (withLine line) (now (words .exit)) ⌝ }
 {
     layout::write_eight(words, at + TILE_LINE, line);
 }
@@ -71,7 +71,7 @@ pub fn read_word(words: &[u64], at: usize, word: u64) -> u64
 
 pub fn write_word(words: &mut [u64], at: usize, word: u64, value: u64)
     requires { ⌜ at + TILE-WORDS ≤ length (now words) ⌝ }
-    ensures { λ _. ⌜ Puts (now (words .entry)) at (withWord word value) (now (words .exit)) ⌝ }
+    ensures { λ _. ⌜ PutsTile (now (words .entry)) at (withWord word value) (now (words .exit)) ⌝ }
 {
     if word < LINE_WORDS {
         let i = word as usize;

@@ -10,6 +10,8 @@ ghost use Rattle.layout.specs.Places.{TILE-WORDS};
 ghost use Rattle.tile_rules.specs.Steps.{tileStepOn};
 ghost use Rattle.tile_words.specs.Answers.{refusedAnswer, acceptedAnswer, stepAnswer};
 ghost use Rattle.tile_words.specs.InPlace.{Steps};
+use numbers::kinds::KIND_OTHER;
+use numbers::queues::NO_QUEUE;
 use numbers::refusals::ACCEPTED;
 use tile_rules::StepAnswer;
 
@@ -22,9 +24,9 @@ fn refused_answer(refusal: u64) -> StepAnswer
 {
     StepAnswer {
         refusal,
-        kind: 0,
+        kind: KIND_OTHER,
         value: 0,
-        sent: 0,
+        sent: NO_QUEUE,
     }
 }
 

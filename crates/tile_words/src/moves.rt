@@ -5,13 +5,13 @@ ghost use lib.ListN.{length};
 ghost use Rattle.layout.specs.Places.{TILE-WORDS};
 ghost use Rattle.layout.specs.Blocks.{tileBlockAt};
 ghost use Rattle.tile_rules.specs.Steps.{afterMove, afterAccepted, loadedValue};
-ghost use Rattle.tile_words.specs.InPlace.{Puts};
+ghost use Rattle.tile_words.specs.InPlace.{PutsTile};
 use numbers::refusals::ACCEPTED;
 use tile_rules::TileMove;
 
 fn make_move(words: &mut [u64], at: usize, made: TileMove)
     requires { ⌜ at + TILE-WORDS ≤ length (now words) ⌝ }
-    ensures { λ _. ⌜ Puts (now (words .entry)) at (afterMove made) (now (words .exit)) ⌝ }
+    ensures { λ _. ⌜ PutsTile (now (words .entry)) at (afterMove made) (now (words .exit)) ⌝ }
 {
     match made {
         TileMove::Refuse(_) => {}
@@ -39,7 +39,7 @@ fn make_move(words: &mut [u64], at: usize, made: TileMove)
 // A move made where its refusal number is 0; else the words stay.
 pub fn make_if_accepted(words: &mut [u64], at: usize, refusal: u64, made: TileMove)
     requires { ⌜ at + TILE-WORDS ≤ length (now words) ⌝ }
-    ensures { λ _. ⌜ Puts (now (words .entry)) at (afterAccepted refusal made) (now (words .exit)) ⌝ }
+    ensures { λ _. ⌜ PutsTile (now (words .entry)) at (afterAccepted refusal made) (now (words .exit)) ⌝ }
 {
     if refusal == ACCEPTED {
         make_move(words, at, made);

@@ -1,12 +1,12 @@
 -- A device of the proofs: no public promise rests on it alone. Parts of the tests of a block, as the code has them.
-use Prim.Native.Nat.{ℕ, _+_}
+use Prim.Native.Nat.{ℕ, _+_, _*_}
 use mathlib.Core.Bool.{Bool, _&&_}
 use mathlib.Core.List.{List}
 use lib.Dec.{eqb}
 use Rattle.numbers.specs.Queues.{NOC1, NOC2, NOC3, TO-MEMORY, FROM-MEMORY}
-use Rattle.layout.specs.Places.{HOME-TO-MEMORY, HOME-FROM-MEMORY}
+use Rattle.layout.specs.Places.{QUEUE-WORDS, HOME-TO-MEMORY, HOME-FROM-MEMORY}
 use Rattle.layout.specs.declared.rows.Row.{Row}
-use Rattle.layout.specs.Blocks.{pairAt}
+use Rattle.layout.specs.Blocks.{pairAt, headState}
 use Rattle.protocol.specs.Parts.{cacheState}
 use Rattle.layout.specs.Encode.{cacheWords}
 use Rattle.layout.specs.Decode.{decCache}
@@ -14,10 +14,10 @@ use Rattle.layout.specs.Canonical.{same, samePair, canonQueue}
 
 -- a tile's queues stand one behind the other
 abbrev pub SECOND-QUEUE : ℕ
-SECOND-QUEUE = 24
+SECOND-QUEUE = QUEUE-WORDS
 
 abbrev pub THIRD-QUEUE : ℕ
-THIRD-QUEUE = 48
+THIRD-QUEUE = 2 * QUEUE-WORDS
 
 -- the queue at place i, by its number
 abbrev pub queueOk : ℕ → List ℕ → ℕ → Bool
@@ -33,4 +33,4 @@ memoryOk l = queueOk TO-MEMORY l HOME-TO-MEMORY && queueOk FROM-MEMORY l HOME-FR
 
 -- state and words of a tile
 unfoldable pub cacheOk : Row → Bool
-cacheOk r = eqb (cacheState (decCache r)) (r .n0) && same (cacheWords (decCache r)) (r .words)
+cacheOk r = eqb (cacheState (decCache r)) (headState r) && same (cacheWords (decCache r)) (r .words)

@@ -5,7 +5,7 @@ use mathlib.Core.List.{List}
 use lib.Dec.{eqb}
 use Rattle.layout.specs.declared.rows.Row.{Row}
 use Rattle.layout.specs.Places.{SECOND}
-use Rattle.layout.specs.Blocks.{rowAt}
+use Rattle.layout.specs.Blocks.{rowAt, messageWord, messageState, messageFlag}
 use Rattle.layout.specs.Encode.{zeros, noRow}
 use Rattle.layout.specs.Canonical.{same, sameRow}
 
@@ -15,12 +15,12 @@ noneAt l i = sameRow noRow (rowAt l i) && sameRow noRow (rowAt l (i + SECOND))
 
 -- all behind the word number is 0
 unfoldable pub clearBehind : Row → Bool
-clearBehind r = eqb 0 (r .n2) && (eqb 0 (r .n3) && same zeros (r .words))
+clearBehind r = eqb 0 (messageState r) && (eqb 0 (messageFlag r) && same zeros (r .words))
 
 -- all but the type is 0
 unfoldable pub bare : Row → Bool
-bare r = eqb 0 (r .n1) && clearBehind r
+bare r = eqb 0 (messageWord r) && clearBehind r
 
 -- the numbers between type and data are 0
 unfoldable pub onlyData : Row → Bool
-onlyData r = eqb 0 (r .n1) && (eqb 0 (r .n2) && eqb 0 (r .n3))
+onlyData r = eqb 0 (messageWord r) && (eqb 0 (messageState r) && eqb 0 (messageFlag r))

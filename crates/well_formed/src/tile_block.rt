@@ -10,6 +10,7 @@ ghost use Rattle.layout.specs.Decode.{decCache, decWaiting};
 ghost use Rattle.layout.specs.Canonical.{sameRow, tileOk};
 ghost use Rattle.well_formed.specs.Rows.{noneAt};
 ghost use Rattle.well_formed.specs.Blocks.{SECOND-QUEUE, THIRD-QUEUE, queuesOk, cacheOk};
+use layout::places::QUEUE_WORDS;
 use layout::places::TILE_NOC1;
 use layout::places::TILE_VALUE;
 use layout::places::TILE_WAITING;
@@ -17,9 +18,9 @@ use layout::places::TILE_WORD;
 use numbers::states::STATE_I;
 
 // A tile's queues stand one behind the other.
-const SECOND_QUEUE: usize = 24;
+const SECOND_QUEUE: usize = QUEUE_WORDS;
 
-const THIRD_QUEUE: usize = 48;
+const THIRD_QUEUE: usize = 2 * QUEUE_WORDS;
 
 // A tile's state and line.
 fn cache_ok(words: &[u64], at: usize) -> bool

@@ -22,7 +22,7 @@ slice-aggregate-write c =
     sym (length-take-le (c .before .before .data-count .result) (c .before .before .before .before .before .before .args .message .words) (omega arith))
 
 returns : tie.Need-returns
-returns c = written (c .before .before .before .before .before .before .before .before .before .before .args .line) (c .before .before .before .before .before .before .before .before .before .before .args .queue) (c .before .before .before .before .before .before .before .before .before .before .args .tile) (c .before .before .before .before .before .before .before .before .before .before .args .message) (c .before .before .before .before .before .before .before .before .before .before .args .buffer .now) (c .before .before .before .before .before .before .before .before .before .before .args .at) _ (c .before .before .before .before .before .before .before .before .row .ensures) (c .before .before .before .before .before .before .before .message-header .ensures) (c .before .before .before .before .before .before .data-count .ensures) (c .before .before .write .ensures)
+returns c = written (c .before .before .before .before .before .before .before .before .before .before .args .line) (c .before .before .before .before .before .before .before .before .before .before .args .queue) (c .before .before .before .before .before .before .before .before .before .before .args .tile) (c .before .before .before .before .before .before .before .before .before .before .args .message) (c .before .before .before .before .before .before .before .before .before .before .args .buffer .now) (c .before .before .before .before .before .before .before .before .before .before .args .at) _ (c .before .before .before .before .before .before .before .before .type-row .ensures) (c .before .before .before .before .before .before .before .message-header .ensures) (c .before .before .before .before .before .before .data-count .ensures) (c .before .before .write .ensures)
 
 pub write-message-spec : {M : Type 1} → statement M
 write-message-spec =
