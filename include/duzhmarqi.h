@@ -27,7 +27,7 @@ extern "C" {
 /* How many words a bench of so many tiles needs. More may be lent: the rest is neither read nor written. */
 #define DUZH_HOME_WORDS 74
 #define DUZH_TILE_WORDS 84
-#define DUZH_WORDS(tiles) (DUZH_HOME_WORDS + DUZH_TILE_WORDS * (size_t)(tiles))
+#define DUZH_WORDS(tile_count) (DUZH_HOME_WORDS + DUZH_TILE_WORDS * (size_t)(tile_count))
 #define DUZH_MOST_TILES 64
 #define DUZH_LINE_WORDS 8 /* words of a line, and of its memory */
 #define DUZH_LINE_BYTES 64 /* a line address is a multiple of it */
@@ -174,7 +174,7 @@ extern "C" {
 #define DUZH_PORT_NORTH 5
 
 /* A fresh bench of so many tiles in the words, with the memory's eight words. memory_n other than 8 is refused 1, first of all. */
-uint64_t duzh_start(uint64_t *words, size_t words_n, uint64_t tiles, const uint64_t *memory, size_t memory_n, uint64_t *out, size_t out_n);
+uint64_t duzh_start(uint64_t *words, size_t words_n, uint64_t tile_count, const uint64_t *memory, size_t memory_n, uint64_t *out, size_t out_n);
 
 /* 1 if the words begin with a bench, else 0. */
 uint64_t duzh_well_formed(const uint64_t *words, size_t words_n);

@@ -71,7 +71,7 @@ module _ (l : List ℕ) (long : 74 ≤ length l) where
     commit-back : (s : HomeStep) → Committed l (popped l 50) n v s a m → Committed l l n v s a m
     commit-back s p =
         record {
-          stops = p .stops;
+          refusing = p .refusing;
           no-room = p .no-room;
           done = λ z t. (p .done z t .0, over-back s (p .done z t .1));
         }

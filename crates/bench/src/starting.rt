@@ -35,20 +35,20 @@ fn clear(words: &mut [u64], from: usize, count: usize)
 
 // A fresh bench of this many tiles, with the memory's words. All is 0 but the tile count, the last taken (the last tile, so that 01's circle
 // begins with tile 0) and the memory's words.
-pub fn start(words: &mut [u64], tiles: u64, memory: [u64; LINE_LENGTH]) -> Answer
-    ensures answer { λ r. ⌜ r ≡ answerOf (startOn (now (words .entry)) tiles memory) ⌝ }
-    ensures after { λ _. ⌜ now (words .exit) ≡ wordsStarted (now (words .entry)) tiles (startOn (now (words .entry)) tiles memory) ⌝ }
+pub fn start(words: &mut [u64], count: u64, memory: [u64; LINE_LENGTH]) -> Answer
+    ensures answer { λ r. ⌜ r ≡ answerOf (startOn (now (words .entry)) count memory) ⌝ }
+    ensures after { λ _. ⌜ now (words .exit) ≡ wordsStarted (now (words .entry)) count (startOn (now (words .entry)) count memory) ⌝ }
 {
-    if 0 < tiles {
-        if tiles <= MOST_TILES {
-            let enough = HOME_WORDS + TILE_WORDS * (tiles as usize);
+    if 0 < count {
+        if count <= MOST_TILES {
+            let enough = HOME_WORDS + TILE_WORDS * (count as usize);
             if enough <= words.len() {
-                words[HOME_TILE_COUNT] = tiles;
+                words[HOME_TILE_COUNT] = count;
                 clear(words, HOME_PHASE, HOME_CONTROL_ROW - HOME_PHASE);
                 layout::write_row(
                     words,
                     HOME_CONTROL_ROW,
-                    layout::row_of(tiles - 1, 0, 0, 0, memory),
+                    layout::row_of(count - 1, 0, 0, 0, memory),
                 );
                 clear(words, HOME_TO_MEMORY, enough - HOME_TO_MEMORY);
                 calls::accepted(KIND_OTHER, 0, NO_QUEUE, 0)

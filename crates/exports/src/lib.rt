@@ -22,12 +22,12 @@ use calls::TileCall;
 
 // A fresh bench of so many tiles, with the eight memory words.
 #[no_mangle]
-pub extern "C" fn duzh_start(words: &mut [u64], tiles: u64, memory: &[u64], out: &mut [u64]) -> u64
-    ensures refusal { λ r. ⌜ r ≡ answerOf (startFrom (now (words .entry)) tiles (now (memory .entry))) .refusal ⌝ }
-    ensures after { λ _. ⌜ now (words .exit) ≡ wordsStarted (now (words .entry)) tiles (startFrom (now (words .entry)) tiles (now (memory .entry))) ⌝ }
-    ensures report { λ _. ⌜ now (out .exit) ≡ reported (now (out .entry)) (answerWords (answerOf (startFrom (now (words .entry)) tiles (now (memory .entry))))) ⌝ }
+pub extern "C" fn duzh_start(words: &mut [u64], count: u64, memory: &[u64], out: &mut [u64]) -> u64
+    ensures refusal { λ r. ⌜ r ≡ answerOf (startFrom (now (words .entry)) count (now (memory .entry))) .refusal ⌝ }
+    ensures after { λ _. ⌜ now (words .exit) ≡ wordsStarted (now (words .entry)) count (startFrom (now (words .entry)) count (now (memory .entry))) ⌝ }
+    ensures report { λ _. ⌜ now (out .exit) ≡ reported (now (out .entry)) (answerWords (answerOf (startFrom (now (words .entry)) count (now (memory .entry))))) ⌝ }
 {
-    let answer = c_arguments::start_from(words, tiles, memory);
+    let answer = c_arguments::start_from(words, count, memory);
     report_answer(out, answer)
 }
 

@@ -34,7 +34,7 @@ one : (l : List ℕ) (i : ℕ) (v : List ℕ) → Placed l (bufferAfter l i v) i
 one l i v = record { place = refl; buffer = refl }
 
 before : (l : List ℕ) (i : ℕ) (v : List ℕ) → placeAfter l i v ≤ length l → i ≤ length l
-before l i v h = let p = placed-put l (bufferAfter l i v) i (placeAfter l i v) v (one l i v) h in omega (arith, p .moved)
+before l i v h = let p = placed-put l (bufferAfter l i v) i (placeAfter l i v) v (one l i v) h in omega (arith, p .place)
 
 -- a last place within the buffer means that each place is
 inside : (l : List ℕ) (i : ℕ) (vs : List (List ℕ)) → placesAfter l i vs ≤ length l → i ≤ length l
@@ -46,7 +46,7 @@ inside l i (v ∷ vs) h =
 
 fitted-at : (vs : List (List ℕ)) (l : List ℕ) (i : ℕ) → placesAfter l i vs ≤ length l → Put l (buffersAfter l i vs) i (placesAfter l i vs) (bytesOf vs)
 unfolding placesAfter buffersAfter bytesOf
-fitted-at [] l i h = record { moved = omega arith; wrote = sym (over-nil l i) }
+fitted-at [] l i h = record { place = omega arith; buffer = sym (over-nil l i) }
 fitted-at (v ∷ vs) l i h =
     let n : length (bufferAfter l i v) ≡ length l = placed-length l (bufferAfter l i v) i (placeAfter l i v) v (one l i v) in
     let k : placeAfter l i v ≤ length l = rw n at (inside (bufferAfter l i v) (placeAfter l i v) vs (rw n h)) in

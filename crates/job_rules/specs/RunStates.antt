@@ -36,5 +36,5 @@ runOf p x = record { put = p + length (x .bytes); going = x .going; at = x .at; 
 pub record PutsPiece (p : ℕ) (before : List ℕ) (x : Left) (answer : Run) (words after : List ℕ) : Type 0 where
   pub says : answer ≡ runOf p x
   pub leaves : words ≡ x .words
-  pub wrote : after ≡ over before p (x .bytes)
+  pub buffer : after ≡ over before p (x .bytes)
   pub inside : answer .put ≤ length before

@@ -23,4 +23,4 @@ pub line-put : (b b′ : List ℕ) (p k : ℕ) (v : List ℕ) (a : Run) → p + 
 unfolding runOf
 line-put b b′ p k v a h x e =
     let q = placed-at b b′ p k v h x in
-    record { says = e ∙ ap (λ (z : ℕ). record { put = z; going = false; at = 0; calls = 0 }) (q .moved); leaves = refl; wrote = q .wrote; inside = omega (arith, ap (λ (z : Run). z .put) e, q .moved) }
+    record { says = e ∙ ap (λ (z : ℕ). record { put = z; going = false; at = 0; calls = 0 }) (q .place); leaves = refl; buffer = q .buffer; inside = omega (arith, ap (λ (z : Run). z .put) e, q .place) }

@@ -56,10 +56,10 @@ call-put job line n at p k l l′ b b′ c a h f e w x r =
     let m : c .next ≡ nextAt job at = ap (λ (z : JobCall). z .next) e ∙ next-in job at h in
     let q : Put b b′ p k (bytesOfCall job line n at l) = room line (n + 1) _ _ b b′ p k (rw i at x) f in
     record {
-      says = r ∙ rw (m, q .moved);
+      says = r ∙ rw (m, q .place);
       leaves = w ∙ rw i;
-      wrote = q .wrote;
-      inside = omega (arith, ap (λ (z : Run). z .put) r, q .moved, call-le job line n at l);
+      buffer = q .buffer;
+      inside = omega (arith, ap (λ (z : Run). z .put) r, q .place, call-le job line n at l);
     }
 
 -- ---- call after call
@@ -102,21 +102,21 @@ module _ (job : List ℕ) (line limit : ℕ) where
     pub done : List ℕ
     pub goes : r .going ≡ true
     pub fewer : r .calls < r .at
-    pub moved : r .put ≡ first .put + length done
+    pub place : r .put ≡ first .put + length done
     pub inside : r .put ≤ length b₀
-    pub wrote : b ≡ over b₀ (first .put) done
+    pub buffer : b ≡ over b₀ (first .put) done
     pub rest : from (first .put) (first .calls) (first .at) l₀ ≡ preceded done (from (r .put) (r .calls) (r .at) l)
 
   pub rest-start : (first : Run) (l b : List ℕ) → first .going ≡ true → first .calls < first .at → first .put ≤ length b → Rest first l b l b first
   unfolding preceded
-  rest-start first l b g f i = record { done = []; goes = g; fewer = f; moved = omega arith; inside = i; wrote = sym (over-nil b (first .put)); rest = refl }
+  rest-start first l b g f i = record { done = []; goes = g; fewer = f; place = omega arith; inside = i; buffer = sym (over-nil b (first .put)); rest = refl }
 
   module _ (first : Run) (l₀ b₀ l b : List ℕ) (r : Run) (len : length b ≡ length b₀) (x : Rest first l₀ b₀ l b r) where
     begins : first .put ≤ length b₀
-    begins = omega (arith, x .moved, x .inside)
+    begins = omega (arith, x .place, x .inside)
 
     two : (b′ bs : List ℕ) → b′ ≡ over b (r .put) bs → b′ ≡ over b₀ (first .put) (x .done ++ bs)
-    two b′ bs e = e ∙ ap (λ (z : List ℕ). over z (r .put) bs) (x .wrote) ∙ over-over b₀ (first .put) (r .put) (x .done) bs begins (x .moved)
+    two b′ bs e = e ∙ ap (λ (z : List ℕ). over z (r .put) bs) (x .buffer) ∙ over-over b₀ (first .put) (r .put) (x .done) bs begins (x .place)
 
     pub rest-step : (l′ b′ : List ℕ) (a : Run) → r .put ≤ limit → r .at < length job → PutsPiece (r .put) b (callLeft job line (r .calls) (r .at) l) a l′ b′ → Rest first l₀ b₀ l′ b′ a
     unfolding runOf
@@ -127,9 +127,9 @@ module _ (job : List ℕ) (line limit : ℕ) where
           done = x .done ++ bs;
           goes = refl;
           fewer = omega (arith, x .fewer);
-          moved = omega (arith, x .moved, length-append (x .done) bs);
+          place = omega (arith, x .place, length-append (x .done) bs);
           inside = omega (arith, ap (λ (z : Run). z .put) e, y .inside);
-          wrote = two b′ bs (y .wrote);
+          buffer = two b′ bs (y .buffer);
           rest = x .rest ∙ ap (preceded (x .done)) (a-call (r .put) (r .calls) (r .at) l h k) ∙ behind-behind (x .done) bs _;
         })
 
@@ -139,9 +139,9 @@ module _ (job : List ℕ) (line limit : ℕ) where
     rest-end b′ a h k y =
         let e : from (first .put) (first .calls) (first .at) l₀ ≡ preceded (x .done) (ended (endLine (r .calls)) l) = x .rest ∙ ap (preceded (x .done)) (an-end (r .put) (r .calls) (r .at) l h k) in
         rw e (record {
-          says = y .says ∙ ap (λ (z : ℕ). record { put = z; going = false; at = 0; calls = 0 }) (omega (arith, x .moved, length-append (x .done) (endLine (r .calls))));
+          says = y .says ∙ ap (λ (z : ℕ). record { put = z; going = false; at = 0; calls = 0 }) (omega (arith, x .place, length-append (x .done) (endLine (r .calls))));
           leaves = refl;
-          wrote = two b′ (endLine (r .calls)) (y .wrote);
+          buffer = two b′ (endLine (r .calls)) (y .buffer);
           inside = rw len at (y .inside);
         })
 
@@ -150,9 +150,9 @@ module _ (job : List ℕ) (line limit : ℕ) where
     rest-pause h =
         let e : from (first .put) (first .calls) (first .at) l₀ ≡ preceded (x .done) (paused (r .calls) (r .at) l) = x .rest ∙ ap (preceded (x .done)) (a-pause (r .put) (r .calls) (r .at) l h) in
         rw e (record {
-          says = ap₂ {C = Run} (λ z t. record { put = z; going = t; at = r .at; calls = r .calls }) (omega (arith, x .moved, length-append (x .done) [])) (x .goes);
+          says = ap₂ {C = Run} (λ z t. record { put = z; going = t; at = r .at; calls = r .calls }) (omega (arith, x .place, length-append (x .done) [])) (x .goes);
           leaves = refl;
-          wrote = x .wrote ∙ ap (over b₀ (first .put)) (sym (append-nil (x .done)));
+          buffer = x .buffer ∙ ap (over b₀ (first .put)) (sym (append-nil (x .done)));
           inside = x .inside;
         })
 
@@ -162,15 +162,15 @@ pub bench-put : (b b′ : List ℕ) (k tiles address : ℕ) → MOST-CALL-BYTES 
 bench-put b b′ k tiles address h x = placed-at b b′ 0 k (benchLine tiles address) (omega (arith, bench-le tiles address)) x
 
 pub bench-inside : (b b′ : List ℕ) (k tiles address : ℕ) → MOST-CALL-BYTES ≤ length b → Placed b b′ 0 k (benchLine tiles address) → k ≤ length b
-bench-inside b b′ k tiles address h x = omega (arith, bench-put b b′ k tiles address h x .moved, bench-le tiles address)
+bench-inside b b′ k tiles address h x = omega (arith, bench-put b b′ k tiles address h x .place, bench-le tiles address)
 
 behind-put : (b b₁ b₂ l : List ℕ) (p k : ℕ) (bs : List ℕ) (x : Left) (a : Run) → p ≤ length b → length b₁ ≡ length b → Put b b₁ p k bs → PutsPiece k b₁ x a l b₂ → PutsPiece p b (preceded bs x) a l b₂
 unfolding runOf preceded
 behind-put b b₁ b₂ l p k bs x a h e y z =
     record {
-      says = z .says ∙ ap (λ (n : ℕ). record { put = n; going = x .going; at = x .at; calls = x .calls }) (omega (arith, y .moved, length-append bs (x .bytes)));
+      says = z .says ∙ ap (λ (n : ℕ). record { put = n; going = x .going; at = x .at; calls = x .calls }) (omega (arith, y .place, length-append bs (x .bytes)));
       leaves = z .leaves;
-      wrote = z .wrote ∙ ap (λ (n : List ℕ). over n k (x .bytes)) (y .wrote) ∙ over-over b p k bs (x .bytes) h (y .moved);
+      buffer = z .buffer ∙ ap (λ (n : List ℕ). over n k (x .bytes)) (y .buffer) ∙ over-over b p k bs (x .bytes) h (y .place);
       inside = omega (arith, z .inside);
     }
 
@@ -181,18 +181,18 @@ pub accepted-put : (job l l₁ l₂ b b₁ b₂ : List ℕ) (k tiles line limit 
 unfolding acceptedPiece
 accepted-put job l l₁ l₂ b b₁ b₂ k tiles line limit s a h e t i m w x q z =
     let y : Put b b₁ 0 k (benchLine (tileCountOf job) (lineAddressOf job)) = rw (t, i) at (bench-put b b₁ k tiles line h x) in
-    let j : k ≡ length (benchLine (tileCountOf job) (lineAddressOf job)) = omega (arith, y .moved) in
+    let j : k ≡ length (benchLine (tileCountOf job) (lineAddressOf job)) = omega (arith, y .place) in
     behind-put b b₁ b₂ l₂ 0 k (benchLine (tileCountOf job) (lineAddressOf job)) _ a (omega arith) e y (rw (← j) (rw (q, i, m, w) at z))
 
 -- ---- the first piece
 
 pub nothing-put : (l b : List ℕ) (a : Run) → a ≡ record { put = 0; going = false; at = 0; calls = 0 } → PutsPiece 0 b (ended [] l) a l b
 unfolding runOf
-nothing-put l b a e = record { says = e; leaves = refl; wrote = sym (over-nil b 0); inside = omega (arith, ap (λ (z : Run). z .put) e) }
+nothing-put l b a e = record { says = e; leaves = refl; buffer = sym (over-nil b 0); inside = omega (arith, ap (λ (z : Run). z .put) e) }
 
 with-words : (p : ℕ) (b v : List ℕ) (a : Run) (l b′ : List ℕ) → PutsPiece p b (ended v []) a [] b′ → PutsPiece p b (ended v l) a l b′
 unfolding runOf
-with-words p b v a l b′ x = record { says = x .says; leaves = refl; wrote = x .wrote; inside = x .inside }
+with-words p b v a l b′ x = record { says = x .says; leaves = refl; buffer = x .buffer; inside = x .inside }
 
 module _ (job l b : List ℕ) (a : Run) where
   pub first-short : length b < MOST-CALL-BYTES → a ≡ record { put = 0; going = false; at = 0; calls = 0 } → PutsPiece 0 b (firstPiece job (length b) l) a l b

@@ -34,7 +34,7 @@ pub fn start_job(words: &mut [u64], job: &[u8]) -> Answer
     ensures answer { λ r. ⌜ r ≡ answerOf (startOn (now (words .entry)) (tileCountOf (now (job .entry))) (memoryWordsOf (now (job .entry)))) ⌝ }
     ensures after { λ _. ⌜ now (words .exit) ≡ wordsStarted (now (words .entry)) (tileCountOf (now (job .entry))) (startOn (now (words .entry)) (tileCountOf (now (job .entry))) (memoryWordsOf (now (job .entry)))) ⌝ }
 {
-    let tiles = job_format::tile_count(job);
+    let count = job_format::tile_count(job);
     let memory = job_format::memory(job);
-    bench::start(words, tiles, memory)
+    bench::start(words, count, memory)
 }

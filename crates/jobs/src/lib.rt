@@ -99,9 +99,9 @@ fn accepted_piece(words: &mut [u64], job: &[u8], buffer: &mut [u8]) -> Run
     ensures { λ a. ⌜ PutsPiece 0 (now (buffer .entry)) (acceptedPiece (now (job .entry)) (length (now (buffer .entry))) (now (words .entry))) a (now (words .exit)) (now (buffer .exit)) ⌝ }
 {
     arguments::start_job(words, job);
-    let tiles = job_format::tile_count(job);
+    let count = job_format::tile_count(job);
     let line = job_format::line_address(job);
-    let put = listing::bench_line(buffer, 0, tiles, line);
+    let put = listing::bench_line(buffer, 0, count, line);
     let limit = buffer.len() - MOST_CALL_BYTES;
     call_after_call(words, job, buffer, line, limit, job_rules::begin(put))
 }

@@ -47,14 +47,14 @@ length-flits (f ∷ fs) = length-append (flitText f) (flitsText fs) ∙ omega (a
 pub flits-turn : (l l′ m fs : List ℕ) (p q i : ℕ) → i < length fs → p ≤ length l → Put l l′ p q (flitText (getD fs i 0)) → over l p (flitsText (drop i fs)) ≡ m → over l′ q (flitsText (drop (i + 1) fs)) ≡ m
 unfolding flitsText
 flits-turn l l′ m fs p q i h k u e =
-    rw (u .wrote)
-    (over-over l p q (flitText (getD fs i 0)) (flitsText (drop (i + 1) fs)) k (u .moved)
+    rw (u .buffer)
+    (over-over l p q (flitText (getD fs i 0)) (flitsText (drop (i + 1) fs)) k (u .place)
     ∙ ap (over l p) (ap (λ (r : ℕ). flitText (getD fs i 0) ++ flitsText (drop r fs)) (add-one i) ∙ sym (ap flitsText (drop-cons fs i 0 h))) ∙ e)
 
 pub flits-put : (l m fs : List ℕ) (at p i : ℕ) → i ≤ length fs → length fs ≤ i → p ≡ at + 17 * i → over l p (flitsText (drop i fs)) ≡ over m at (flitsText fs) → Put m l at p (flitsText fs)
 unfolding flitsText
 flits-put l m fs at p i g h s e =
-    record { moved = omega (arith, length-flits fs); wrote = sym (over-nil l p) ∙ ap (λ (r : List ℕ). over l p (flitsText r)) (sym (drop-of-length-le fs {i = i} h)) ∙ e }
+    record { place = omega (arith, length-flits fs); buffer = sym (over-nil l p) ∙ ap (λ (r : List ℕ). over l p (flitsText r)) (sym (drop-of-length-le fs {i = i} h)) ∙ e }
 
 pub message-length : (fs : List ℕ) → length fs * 17 + 2 ≡ length (messageLine fs)
 unfolding messageLine

@@ -30,7 +30,7 @@ unfolding digits
 digits-put l m at base count n left rest h e =
     let s : left ≡ 0 = omega arith in
     let f : over l at (digits base 0 rest) ≡ over m at (digits base count n) = rw s at e in
-    record { moved = omega (arith, length-digits base count n); wrote = sym (over-nil l at) ∙ f }
+    record { place = omega (arith, length-digits base count n); buffer = sym (over-nil l at) ∙ f }
 
 -- a decimal digit
 pub ten-digit : (d : ℕ) → d < 10 → 48 + d ≡ digitByte d
@@ -62,7 +62,7 @@ number-put l m at next n w e p = subst (λ (vs : List ℕ). Put l m at next vs) 
 pub one-put : (l : List ℕ) (at n : ℕ) → n < 10 → at < length l → Put l (set l at (48 + n)) at (at + 1) (decimal n)
 one-put l at n u h =
     let d : decimal n ≡ (48 + n) ∷ [] = one-digit 19 n u ∙ ap (λ (b : ℕ). b ∷ []) (sym (ten-digit n u)) in
-    rw d (record { moved = refl; wrote = over-one l at (48 + n) h })
+    rw d (record { place = refl; buffer = over-one l at (48 + n) h })
 
 pub one-wide : (n w : ℕ) → n < 10 → w ≡ length (decimal n) → w ≡ 1
 one-wide n w u e = e ∙ ap length (one-digit 19 n u)

@@ -38,12 +38,12 @@ fn put_address_end(buffer: &mut [u8], at: usize, address: u64) -> usize
     lists::put_byte(buffer, next, b'\n')
 }
 
-pub fn bench_line(buffer: &mut [u8], at: usize, tiles: u64, address: u64) -> usize
-    ensures { λ r. ⌜ Placed (now (buffer .entry)) (now (buffer .exit)) at r (benchLine tiles address) ⌝ }
+pub fn bench_line(buffer: &mut [u8], at: usize, count: u64, address: u64) -> usize
+    ensures { λ r. ⌜ Placed (now (buffer .entry)) (now (buffer .exit)) at r (benchLine count address) ⌝ }
 {
-    let count = digit_count(tiles);
-    if lists::room(buffer.len(), at, count + BENCH_FIXED) {
-        let next = put_labelled(buffer, at, b"bench ", tiles, count, b' ');
+    let digits = digit_count(count);
+    if lists::room(buffer.len(), at, digits + BENCH_FIXED) {
+        let next = put_labelled(buffer, at, b"bench ", count, digits, b' ');
         put_address_end(buffer, next, address)
     } else {
         buffer.len() + 1

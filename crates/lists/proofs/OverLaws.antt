@@ -75,7 +75,7 @@ over-last l i xs a h =
 -- two pieces put one after the other
 pub join : (l m n : List ℕ) (i j k : ℕ) (xs ys : List ℕ) → i ≤ length l → Put l m i j xs → Put m n j k ys → Put l n i k (xs ++ ys)
 join l m n i j k xs ys h p q =
-    record { moved = omega (arith, p .moved, q .moved, length-append xs ys); wrote = then-over l m n i j xs ys h (p .moved) (p .wrote) (q .wrote) }
+    record { place = omega (arith, p .place, q .place, length-append xs ys); buffer = then-over l m n i j xs ys h (p .place) (p .buffer) (q .buffer) }
 
 -- two pieces of two pieces
 pub four-put : (l m n : List ℕ) (i j k : ℕ) (a b c d : List ℕ) → i ≤ length l → Put l m i j (a ++ b) → Put m n j k (c ++ d) → Put l n i k (a ++ (b ++ (c ++ d)))
@@ -84,7 +84,7 @@ four-put l m n i j k a b c d h p q = subst (λ (vs : List ℕ). Put l n i k vs) 
 -- put where it fits, and where it does not
 pub fits : (l m : List ℕ) (i j : ℕ) (vs : List ℕ) → i + length vs ≤ length l → Put l m i j vs → Placed l m i j vs
 unfolding bufferAfter placeAfter
-fits l m i j vs h p = record { place = rw (le-leb (i + length vs) (length l) h) (p .moved); buffer = rw (le-leb (i + length vs) (length l) h) (p .wrote) }
+fits l m i j vs h p = record { place = rw (le-leb (i + length vs) (length l) h) (p .place); buffer = rw (le-leb (i + length vs) (length l) h) (p .buffer) }
 
 pub does-not-fit : (l : List ℕ) (i : ℕ) (vs : List ℕ) → length l < i + length vs → Placed l l i (length l + 1) vs
 unfolding bufferAfter placeAfter
@@ -106,7 +106,7 @@ unfolding bufferAfter placeAfter
 placed-put l m i j vs p h = go (leb (i + length vs) (length l)) refl
   where
     go : (b : Bool) → leb (i + length vs) (length l) ≡ b → Put l m i j vs
-    go true e = record { moved = rw e at (p .place); wrote = rw e at (p .buffer) }
+    go true e = record { place = rw e at (p .place); buffer = rw e at (p .buffer) }
     go false e = absurd (let q : j ≡ length l + 1 = rw e at (p .place) in omega arith)
 
 pub placed-length : (l m : List ℕ) (i j : ℕ) (vs : List ℕ) → Placed l m i j vs → length m ≡ length l
@@ -121,5 +121,5 @@ pub two-placed : (l m n : List ℕ) (i j k : ℕ) (xs ys : List ℕ) → Placed 
 two-placed l m n i j k xs ys p q h =
     let s : length m ≡ length l = placed-length l m i j xs p in
     let b : Put m n j k ys = placed-put m n j k ys q (omega arith) in
-    let a : Put l m i j xs = placed-put l m i j xs p (omega (arith, b .moved)) in
-    join l m n i j k xs ys (omega (arith, a .moved, b .moved)) a b
+    let a : Put l m i j xs = placed-put l m i j xs p (omega (arith, b .place)) in
+    join l m n i j k xs ys (omega (arith, a .place, b .place)) a b

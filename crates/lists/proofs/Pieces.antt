@@ -11,7 +11,7 @@ use Rattle.lists.specs.Over.{over, Put}
 use Rattle.lists.proofs.OverLaws.{over-nil, over-one, over-over}
 
 pub byte-put : (l : List ℕ) (i a : ℕ) → i + 1 ≤ length l → Put l (set l i a) i (i + 1) (a ∷ [])
-byte-put l i a h = record { moved = refl; wrote = over-one l i a (omega arith) }
+byte-put l i a h = record { place = refl; buffer = over-one l i a (omega arith) }
 
 -- text, from the front
 pub text-turn : (l m text : List ℕ) (at i : ℕ) → i < length text → at + i < length l → over l (at + i) (drop i text) ≡ m → over (set l (at + i) (getD text i 0)) (at + (i + 1)) (drop (i + 1) text) ≡ m
@@ -22,4 +22,4 @@ text-turn l m text at i h k e =
 
 pub text-put : (l m text : List ℕ) (at i : ℕ) → length text ≤ i → over l (at + i) (drop i text) ≡ over m at text → Put m l at (at + length text) text
 text-put l m text at i h e =
-    record { moved = refl; wrote = sym (over-nil l (at + i)) ∙ ap (over l (at + i)) (sym (drop-of-length-le text {i = i} h)) ∙ e }
+    record { place = refl; buffer = sym (over-nil l (at + i)) ∙ ap (over l (at + i)) (sym (drop-of-length-le text {i = i} h)) ∙ e }

@@ -24,5 +24,5 @@ pub record Placed (before after : List ℕ) (at next : ℕ) (vs : List ℕ) : Ty
 
 -- the same of one that is called only where they fit
 pub record Put (before after : List ℕ) (at next : ℕ) (vs : List ℕ) : Type 0 where
-  pub moved : next ≡ at + length vs
-  pub wrote : after ≡ over before at vs
+  pub place : next ≡ at + length vs
+  pub buffer : after ≡ over before at vs

@@ -14,7 +14,7 @@ put-labelled-requires c κs =
 
 put-address-end-requires : tie.Need-put-address-end-requires
 put-address-end-requires c κs =
-    omega (arith, has-room (length (c .before .before .before .before .before .before .before .before .before .before .args .buffer .now)) (c .before .before .before .before .before .before .before .before .before .before .args .at) (c .before .before .before .before .before .before .before .before .digit-count .result + 20) (c .before .before .before .before .before .before .before .room .ensures) (c .before .before .before .before .before .before .if1 .taken), c .before .before .before .before .before .before .before .before .digit-count .ensures .0, then-length (c .before .before .before .before .before .before .before .before .before .before .args .tiles) 32)
+    omega (arith, has-room (length (c .before .before .before .before .before .before .before .before .before .before .args .buffer .now)) (c .before .before .before .before .before .before .before .before .before .before .args .at) (c .before .before .before .before .before .before .before .before .digit-count .result + 20) (c .before .before .before .before .before .before .before .room .ensures) (c .before .before .before .before .before .before .if1 .taken), c .before .before .before .before .before .before .before .before .digit-count .ensures .0, then-length (c .before .before .before .before .before .before .before .before .before .before .args .count) 32)
 
 returns : tie.Need-returns
 returns c =

@@ -17,7 +17,7 @@ abbrev μ-loop : tie.MeasureT-loop
 μ-loop buffer₀ at flits i₀ p₀ buffer i p = length flits - i
 
 loop-again : tie.Need-loop-again Inv-loop μ-loop
-loop-again c = (omega arith, omega (arith, c .before .before .put-flit .ensures .moved, length-digits 16 16 (getD (c .before .before .before .before .before .before .before .before .before .args .flits .now) (c .before .before .before .before .before .before .loop .i) 0)), c .before .before .put-flit .kept .0 ∙ c .before .before .before .before .before .before .loop .inv .2, flits-turn _ _ _ _ _ _ _ (c .before .before .before .before .before .loop-test .taken) (omega arith) (c .before .before .put-flit .ensures) (c .before .before .before .before .before .before .loop .inv .3))
+loop-again c = (omega arith, omega (arith, c .before .before .put-flit .ensures .place, length-digits 16 16 (getD (c .before .before .before .before .before .before .before .before .before .args .flits .now) (c .before .before .before .before .before .before .loop .i) 0)), c .before .before .put-flit .kept .0 ∙ c .before .before .before .before .before .before .loop .inv .2, flits-turn _ _ _ _ _ _ _ (c .before .before .before .before .before .loop-test .taken) (omega arith) (c .before .before .put-flit .ensures) (c .before .before .before .before .before .before .loop .inv .3))
 
 returns : tie.Need-returns Inv-loop μ-loop
 returns c = flits-put _ _ _ _ _ _ (c .before .loop .inv .0) (c .loop-test .left) (c .before .loop .inv .1) (c .before .loop .inv .3)

@@ -11,7 +11,7 @@ put-byte-requires-2 c κs = omega (arith, c .before .before .before .before .bef
 
 returns : tie.Need-returns
 unfolding messageLine
-returns c = join _ _ _ _ _ _ _ _ (omega (arith, c .before .before .before .before .before .before .before .before .before .before .before .before .before .before .pre)) (c .before .before .before .before .before .before .before .before .before .before .put-byte .ensures) (join _ _ _ _ _ _ _ _ (omega (arith, c .before .before .before .before .before .before .before .before .before .before .before .before .before .before .pre, c .before .before .before .before .before .before .before .before .before .before .put-byte .ensures .moved, c .before .before .before .before .before .before .before .before .before .before .put-byte .kept)) (c .before .before .before .before .before .before .put-flits .ensures) (c .before .before .put-byte2 .ensures))
+returns c = join _ _ _ _ _ _ _ _ (omega (arith, c .before .before .before .before .before .before .before .before .before .before .before .before .before .before .pre)) (c .before .before .before .before .before .before .before .before .before .before .put-byte .ensures) (join _ _ _ _ _ _ _ _ (omega (arith, c .before .before .before .before .before .before .before .before .before .before .before .before .before .before .pre, c .before .before .before .before .before .before .before .before .before .before .put-byte .ensures .place, c .before .before .before .before .before .before .before .before .before .before .put-byte .kept)) (c .before .before .before .before .before .before .put-flits .ensures) (c .before .before .put-byte2 .ensures))
 
 pub put-message-spec : {M : Type 1} → statement M
 put-message-spec =
