@@ -1,4 +1,4 @@
--- Under the invariant the delivery `next` can be accepted, unless all is quiet: no tile waits, every queue is empty, the home is idle.
+-- Under the invariant `nextDelivery` can be accepted, unless all is quiet: no tile waits, every queue is empty, the home is idle.
 use Prim.Native.Nat.{ℕ, zero, suc, _<_, _^_}
 use mathlib.Core.Path.{_≡_, refl, sym, subst, _∙_}
 use mathlib.Core.Bool.{Bool, true, false, not}
@@ -286,7 +286,7 @@ settled {ws} {q = f} {n} (inv {h} {l} {k} {mem} {out} {back} {ts} len hok all) r
         ))
         z
 
--- `next` is a delivery
+-- `nextDelivery` is a delivery
 pub next-delivery : (b : Bench) → isDelivery (nextDelivery b) ≡ true
 unfolding nextDelivery
 next-delivery (benchOf h l k mem out back ts) =

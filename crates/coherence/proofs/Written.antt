@@ -1,4 +1,4 @@
--- The eight words last written, as a list: each call writes it as it writes the word of specs/Order1.
+-- The eight words last written, as a list: each call writes it as it writes the word of protocol's specs/Order1.
 use Prim.Native.Nat.{ℕ, _<_}
 use mathlib.Core.Path.{_≡_, refl, sym, ap, subst, _∙_}
 use mathlib.Core.Bool.{Bool, cond, true, false, _&&_, _||_}
@@ -76,7 +76,7 @@ small-after memoryStep b t x s = s
 small-after memoryAck b t x s = s
 small-after homeEviction b t x s = s
 
--- ---- the list's words are those of specs/Order1
+-- ---- the list's words are those of protocol's specs/Order1
 
 set-word : (ws : Words) (u w v : ℕ) → u < length ws → getD (set ws u v) w 0 ≡ cond (eqb u w) v (getD ws w 0)
 set-word ws u w v h =

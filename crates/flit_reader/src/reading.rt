@@ -63,7 +63,7 @@ pub fn read(flits: &[u64]) -> Read
     ensures { λ r. ⌜ r ≡ readOf (now (flits .entry)) ⌝ }
 {
     let flit1 = flit_at(flits, 0);
-    let row = flit_table::row(bits::cut(flit1, places::OPCODE, places::OPCODE_BITS));
+    let row = flit_table::type_row(bits::cut(flit1, places::OPCODE, places::OPCODE_BITS));
     let flit2 = select(row.three, flit_at(flits, 1), 0);
     let flit3 = select(row.three, flit_at(flits, 2), 0);
     let header = flit_fields::header_of(flit1, flit2, flit3);

@@ -8,9 +8,9 @@ use Rattle.flit_rules.specs.Rules.{portsListed, reservedClear, fieldsAll
 use Rattle.flit_rules.specs.Reading.{readRefusal, readOf, dataOf}
 use Rattle.flit_rules.specs.Writing.{writeRefusal, flitsOf}
 use Rattle.flit_rules.specs.RoundTrips.{copyRefusal, copiedOf, copyBuffer, echoOf}
-use Rattle.flit_rules.specs.Examples.{Listing-statement, Fields-statement, P10-statement, DataAck-statement, LoadFwdAck-statement, ReadOrder-statement, WriteOrder-statement, RoundTrips-statement}
+use Rattle.flit_rules.specs.Examples.{ListingFlits-statement, Fields-statement, P10-statement, DataAck-statement, LoadFwdAck-statement, ReadOrder-statement, WriteOrder-statement, RoundTrips-statement}
 
-listing : Listing-statement
+listing : ListingFlits-statement
 unfolding readOf dataOf readRefusal rowOf headerOfFlits portsListed reservedClear fieldsAllowed flitsOf flit1Of flit2Of flit3Of put writeRefusal
 listing = ((refl, refl, refl, refl), (refl, refl, refl, refl), (refl, refl, refl, refl), (refl, refl, refl, refl))
 

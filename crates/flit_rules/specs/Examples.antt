@@ -54,8 +54,8 @@ abbrev oneFlit : ℕ → ℕ → ℕ → ℕ → ℕ → ℕ → Header
 oneFlit opcode tag state miss address54 last = withAddress opcode tag state miss address54 last 0
 
 -- these flits alone read as the message with these data, and the message is written as them
-abbrev pub Message : List ℕ → Header → List ℕ → Type 0
-Message flits h words =
+abbrev pub IsMessage : List ℕ → Header → List ℕ → Type 0
+IsMessage flits h words =
     (readOf flits ≡ readAccepted h (length flits) (length flits - length words))
     × (dataOf flits ≡ words)
     × (flitsOf h words ≡ flits)
@@ -69,12 +69,12 @@ memory = record { chip = 0; x = 0; y = 0; port = PORT-WEST }
 abbrev sevens : List ℕ
 sevens = 7 ∷ 0 ∷ 0 ∷ 0 ∷ 0 ∷ 0 ∷ 0 ∷ 0 ∷ []
 
-abbrev pub Listing-statement : Type 0
-Listing-statement =
-    Message (0x000000000087C000 ∷ 0x0000800010400400 ∷ 0 ∷ []) (threeFlits LOAD-REQ 0 noNode 0x80001040 0 0 4 noNode) []
-    × Message (0x000000008084C000 ∷ 0x0000800010400700 ∷ 0 ∷ []) (threeFlits LOAD-MEM 0 memory 0x80001040 0 0 LINE-SIZE noNode) []
-    × Message (0x0000000002060000 ∷ sevens) (oneFlit LOAD-MEM-ACK 0 0 0 0 0) sevens
-    × Message (0x0000000002074028 ∷ sevens) (oneFlit DATA-ACK 0 STATE-E 1 0 0) sevens
+abbrev pub ListingFlits-statement : Type 0
+ListingFlits-statement =
+    IsMessage (0x000000000087C000 ∷ 0x0000800010400400 ∷ 0 ∷ []) (threeFlits LOAD-REQ 0 noNode 0x80001040 0 0 4 noNode) []
+    × IsMessage (0x000000008084C000 ∷ 0x0000800010400700 ∷ 0 ∷ []) (threeFlits LOAD-MEM 0 memory 0x80001040 0 0 LINE-SIZE noNode) []
+    × IsMessage (0x0000000002060000 ∷ sevens) (oneFlit LOAD-MEM-ACK 0 0 0 0 0) sevens
+    × IsMessage (0x0000000002074028 ∷ sevens) (oneFlit DATA-ACK 0 STATE-E 1 0 0) sevens
 
 -- ---- every field with a number of its own
 
@@ -86,9 +86,9 @@ nodeB = record { chip = 6; x = 7; y = 8; port = PORT-NORTH }
 
 abbrev pub Fields-statement : Type 0
 Fields-statement =
-    Message (0x0004080D00840140 ∷ 0x000080001040F000 ∷ 0x00181C2140000000 ∷ []) (threeFlits LOAD-FWD 5 nodeA 0x80001040 ALL-SUBLINES 0 NO-SIZE nodeB) []
-    × Message (0x000000000087C000 ∷ 0x0000800010410D00 ∷ 0 ∷ []) (threeFlits LOAD-REQ 0 noNode 0x80001041 0 1 5 noNode) []
-    × Message (0x000000000207403C ∷ sevens) (oneFlit DATA-ACK 0 STATE-M 1 2 0) sevens
+    IsMessage (0x0004080D00840140 ∷ 0x000080001040F000 ∷ 0x00181C2140000000 ∷ []) (threeFlits LOAD-FWD 5 nodeA 0x80001040 ALL-SUBLINES 0 NO-SIZE nodeB) []
+    × IsMessage (0x000000000087C000 ∷ 0x0000800010410D00 ∷ 0 ∷ []) (threeFlits LOAD-REQ 0 noNode 0x80001041 0 1 5 noNode) []
+    × IsMessage (0x000000000207403C ∷ sevens) (oneFlit DATA-ACK 0 STATE-M 1 2 0) sevens
 
 -- ---- P10: flit 000000000005C041 alone reads as INV_FWDACK, tag 1; with bit 0 clear: 16
 

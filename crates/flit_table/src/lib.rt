@@ -4,4 +4,4 @@ mod entries;
 mod rows;
 
 pub use rows::network;
-pub use rows::row;
+pub use rows::type_row;

@@ -29,7 +29,7 @@ fn row_of_entry(entry: u64) -> TypeRow
 }
 
 // The row of a type, of any number.
-pub fn row(opcode: u64) -> TypeRow
+pub fn type_row(opcode: u64) -> TypeRow
     ensures { λ r. ⌜ r ≡ rowOf opcode ⌝ }
 {
     row_of_entry(crate::entries::entry(opcode))
@@ -39,5 +39,5 @@ pub fn row(opcode: u64) -> TypeRow
 pub fn network(opcode: u64) -> u64
     ensures { λ r. ⌜ r ≡ rowOf opcode .network ⌝ }
 {
-    row(opcode).network
+    type_row(opcode).network
 }

@@ -11,7 +11,7 @@ use numbers::refusals::ACCEPTED;
 pub fn write(header: Header, words: &[u64], buffer: &mut [u64], at: usize) -> Written
     ensures { λ r. ⌜ (r ≡ writtenOf header (length (now (words .entry))) (length (now (buffer .entry))) at) × (now (buffer .exit) ≡ bufferOf header (now (words .entry)) (now (buffer .entry)) at) ⌝ }
 {
-    let row = flit_table::row(header.opcode);
+    let row = flit_table::type_row(header.opcode);
     let refusal = crate::refusal::write_refusal(row, header, words.len(), buffer.len(), at);
     if refusal == ACCEPTED {
         let following = bits::select(row.three, EXTRA_FLITS, 0) + words.len() as u64;

@@ -18,7 +18,7 @@ pub use flit_rules::Read;
 pub use flit_rules::TypeRow;
 pub use flit_rules::Written;
 pub use flit_table::network;
-pub use flit_table::row;
+pub use flit_table::type_row;
 pub use flit_writer::write;
 pub use rounds::copy;
 pub use rounds::echo;

@@ -1,5 +1,5 @@
 // The calls of a job made one by one, with their lines of the listing. Apart from the other exported functions, so that the compiler has
-// one caller of each call on a bench, and puts it in there.
+// one caller of each call on a bench, and puts it in there. specs/Arguments: which call of a job it is.
 ghost use mathlib.Core.Path.{_≡_};
 ghost use mathlib.Core.List.{_∷_, []};
 ghost use Rattle.calls.specs.Calls.{answerTo, afterCall};

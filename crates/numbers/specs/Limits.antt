@@ -9,6 +9,10 @@ MOST-TILES = 64
 abbrev pub LINE-WORDS : ℕ
 LINE-WORDS = 8
 
+-- bytes of a word
+abbrev pub WORD-BYTES : ℕ
+WORD-BYTES = 8
+
 -- a line address is a multiple of it
 abbrev pub LINE-BYTES : ℕ
 LINE-BYTES = 64

@@ -1,4 +1,5 @@
-// The paper's numbers by name, below all other crates. specs/ has the same names, with a hyphen for the underscore, for definitions and contracts.
+// The paper's numbers by name, and our numbers of its queues, below all other crates. specs/ has the same names, with a hyphen for the
+// underscore, for definitions and contracts.
 // In reading order: types, states, ports, queues, kinds, refusals, tags, limits.
 pub mod kinds;
 pub mod limits;

@@ -5,6 +5,7 @@ use mathlib.Core.List.{List, [], _∷_}
 use lib.Dec.{eqb}
 use Rattle.masks.specs.Mask.{add}
 use Rattle.numbers.specs.Queues.{NO-QUEUE, NOC1, NOC2, NOC3, TO-MEMORY, FROM-MEMORY, NOC3-THEN-NOC1}
+use Rattle.numbers.specs.Kinds.{KIND-OTHER}
 use Rattle.numbers.specs.Refusals.{ACCEPTED}
 use Rattle.protocol.specs.declared.Answer.{Answer}
 use Rattle.protocol.specs.Parts.{Message, onNoc1, onNoc2, onNoc3, toMemory, fromMemory, Result, refused, accepted}
@@ -30,7 +31,7 @@ sentTo (fromMemory m ∷ ms) = sentTo ms
 
 -- a refusal gives its number, with kind and value 0, and sends nothing
 abbrev pub refusal : ℕ → Answer
-refusal n = record { refusal = n; kind = 0; value = 0; sent = 0; tiles = 0 }
+refusal n = record { refusal = n; kind = KIND-OTHER; value = 0; sent = NO-QUEUE; tiles = 0 }
 
 abbrev pub acceptance : ℕ → ℕ → List Message → Answer
 acceptance k v ms = record { refusal = ACCEPTED; kind = k; value = v; sent = sentOn ms; tiles = sentTo ms }

@@ -20,7 +20,7 @@ abbrev pub gives : ℕ → ℕ → List ℕ
 gives k v = ACCEPTED ∷ k ∷ v ∷ []
 
 abbrev pub refuses : ℕ → List ℕ
-refuses n = n ∷ 0 ∷ 0 ∷ []
+refuses n = n ∷ KIND-OTHER ∷ 0 ∷ []
 
 abbrev pub saidBy : Answer → List ℕ
 saidBy r = r .refusal ∷ r .kind ∷ r .value ∷ []

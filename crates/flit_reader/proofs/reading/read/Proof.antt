@@ -6,7 +6,7 @@ use Rattle.flit_reader.proofs.reading.read.Tie as tie
 
 add-start : tie.Need-add-start
 add-start c =
-    let l = extra-le (c .before .before .before .before .before .before .before .before .row .result .three) in
+    let l = extra-le (c .before .before .before .before .before .before .before .before .type-row .result .three) in
     omega (arith, c .select3 .ensures)
 
 returns : tie.Need-returns
@@ -14,7 +14,7 @@ returns c =
     read-done _
     (c .before .before .before .before .before .before .before .before .before .before .before .flit-at .ensures)
     (c .before .before .before .before .before .before .before .before .before .before .cut .ensures)
-    (c .before .before .before .before .before .before .before .before .before .row .ensures)
+    (c .before .before .before .before .before .before .before .before .before .type-row .ensures)
     (c .before .before .before .before .before .before .before .before .flit-at2 .ensures)
     (c .before .before .before .before .before .before .before .select .ensures)
     (c .before .before .before .before .before .before .flit-at3 .ensures)

@@ -4,7 +4,7 @@ use Rattle.flit_table.proofs.rows.network.Tie as tie
 
 returns : tie.Need-returns
 returns c =
-    rw (c .row .ensures)
+    rw (c .type-row .ensures)
 
 pub network-spec : {M : Type 1} → statement M
 network-spec = tie.close (tie.spec (λ c κs. search needs) returns)
