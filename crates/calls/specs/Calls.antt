@@ -56,8 +56,8 @@ abbrev pub afterCall : Call → List ℕ → List ℕ
 afterCall c l = wordsAfter l (stepOn l c)
 
 -- words that take calls, and show the bench that they are
-abbrev pub words : Machine
-words = record { State = List ℕ; answer = answerTo; next = afterCall; view = decoded }
+abbrev pub lentWords : Machine
+lentWords = record { State = List ℕ; answer = answerTo; next = afterCall; view = decoded }
 
 -- Start, of n tiles with the memory's words: 2, tile count not 1 to 64, then 1 by the number of words alone. It writes exactly the
 -- words that n tiles need.

@@ -4,8 +4,8 @@ use Rattle.protocol.specs.Calls.{tileCalls, homeCalls, callFrom}
 use Rattle.calls.specs.declared.tile_calls.TileCall.{TileCall}
 use Rattle.calls.specs.declared.home_calls.HomeCall.{HomeCall}
 
-abbrev pub atTile : TileCall → Call
-atTile c = callFrom tileCalls (c .tag) (c .tile) (c .word) (c .value)
+abbrev pub callAtTile : TileCall → Call
+callAtTile c = callFrom tileCalls (c .tag) (c .tile) (c .word) (c .value)
 
-abbrev pub atHome : HomeCall → Call
-atHome c = callFrom homeCalls (c .tag) (c .tile) 0 0
+abbrev pub callAtHome : HomeCall → Call
+callAtHome c = callFrom homeCalls (c .tag) (c .tile) 0 0

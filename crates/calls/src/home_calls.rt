@@ -1,7 +1,7 @@
 // The calls at the home, by their numbers.
 ghost use mathlib.Core.Path.{_≡_};
 ghost use Rattle.protocol.specs.Parts.{taking, fromTile, memoryStep, memoryAck, homeEviction};
-ghost use Rattle.calls.specs.Numbered.{atHome};
+ghost use Rattle.calls.specs.Numbered.{callAtHome};
 use numbers::tags::TAG_FROM_TILE;
 use numbers::tags::TAG_HOME_EVICTION;
 use numbers::tags::TAG_MEMORY_ACK;
@@ -15,7 +15,7 @@ pub struct HomeCall {
 }
 
 pub fn taking() -> HomeCall
-    ensures { λ r. ⌜ atHome r ≡ taking ⌝ }
+    ensures { λ r. ⌜ callAtHome r ≡ taking ⌝ }
 {
     HomeCall {
         tag: TAG_TAKING,
@@ -24,7 +24,7 @@ pub fn taking() -> HomeCall
 }
 
 pub fn from_tile(tile: u64) -> HomeCall
-    ensures { λ r. ⌜ atHome r ≡ fromTile tile ⌝ }
+    ensures { λ r. ⌜ callAtHome r ≡ fromTile tile ⌝ }
 {
     HomeCall {
         tag: TAG_FROM_TILE,
@@ -33,7 +33,7 @@ pub fn from_tile(tile: u64) -> HomeCall
 }
 
 pub fn memory_step() -> HomeCall
-    ensures { λ r. ⌜ atHome r ≡ memoryStep ⌝ }
+    ensures { λ r. ⌜ callAtHome r ≡ memoryStep ⌝ }
 {
     HomeCall {
         tag: TAG_MEMORY_STEP,
@@ -42,7 +42,7 @@ pub fn memory_step() -> HomeCall
 }
 
 pub fn memory_ack() -> HomeCall
-    ensures { λ r. ⌜ atHome r ≡ memoryAck ⌝ }
+    ensures { λ r. ⌜ callAtHome r ≡ memoryAck ⌝ }
 {
     HomeCall {
         tag: TAG_MEMORY_ACK,
@@ -51,7 +51,7 @@ pub fn memory_ack() -> HomeCall
 }
 
 pub fn home_eviction() -> HomeCall
-    ensures { λ r. ⌜ atHome r ≡ homeEviction ⌝ }
+    ensures { λ r. ⌜ callAtHome r ≡ homeEviction ⌝ }
 {
     HomeCall {
         tag: TAG_HOME_EVICTION,

@@ -2,7 +2,7 @@
 ghost use mathlib.Core.Path.{_≡_};
 ghost use Rattle.protocol.specs.Parts.{load, store, evict, toTile};
 ghost use Rattle.protocol.specs.Calls.{tileCalls, hasTag};
-ghost use Rattle.calls.specs.Numbered.{atTile};
+ghost use Rattle.calls.specs.Numbered.{callAtTile};
 use numbers::tags::TAG_EVICT;
 use numbers::tags::TAG_LOAD;
 use numbers::tags::TAG_STORE;
@@ -17,7 +17,7 @@ pub struct TileCall {
 }
 
 pub fn load(tile: u64, word: u64) -> TileCall
-    ensures { λ r. ⌜ atTile r ≡ load tile word ⌝ }
+    ensures { λ r. ⌜ callAtTile r ≡ load tile word ⌝ }
 {
     TileCall {
         tag: TAG_LOAD,
@@ -28,7 +28,7 @@ pub fn load(tile: u64, word: u64) -> TileCall
 }
 
 pub fn store(tile: u64, word: u64, value: u64) -> TileCall
-    ensures { λ r. ⌜ atTile r ≡ store tile word value ⌝ }
+    ensures { λ r. ⌜ callAtTile r ≡ store tile word value ⌝ }
 {
     TileCall {
         tag: TAG_STORE,
@@ -39,7 +39,7 @@ pub fn store(tile: u64, word: u64, value: u64) -> TileCall
 }
 
 pub fn evict(tile: u64) -> TileCall
-    ensures { λ r. ⌜ atTile r ≡ evict tile ⌝ }
+    ensures { λ r. ⌜ callAtTile r ≡ evict tile ⌝ }
 {
     TileCall {
         tag: TAG_EVICT,
@@ -50,7 +50,7 @@ pub fn evict(tile: u64) -> TileCall
 }
 
 pub fn to_tile(tile: u64) -> TileCall
-    ensures { λ r. ⌜ atTile r ≡ toTile tile ⌝ }
+    ensures { λ r. ⌜ callAtTile r ≡ toTile tile ⌝ }
 {
     TileCall {
         tag: TAG_TO_TILE,

@@ -6,7 +6,7 @@ ghost use lib.ListN.{length, drop};
 ghost use Rattle.protocol.specs.Parts.{load, store, evict, taking, toTile, fromTile, memoryStep, memoryAck, homeEviction};
 ghost use Rattle.protocol.specs.Answers.{answerOf};
 ghost use Rattle.calls.specs.Calls.{wellFormed, answerTo, afterCall, wordsStarted};
-ghost use Rattle.calls.specs.Numbered.{atTile, atHome};
+ghost use Rattle.calls.specs.Numbered.{callAtTile, callAtHome};
 ghost use Rattle.messages.specs.Queues.{sentQueues};
 ghost use Rattle.messages.specs.Rows.{sentMessage};
 ghost use Rattle.flits.specs.Reading.{readOf};
@@ -40,9 +40,9 @@ pub extern "C" fn duzh_well_formed(words: &[u64]) -> u64
 }
 
 fn run_tile(words: &mut [u64], call: TileCall, out: &mut [u64]) -> u64
-    ensures refusal { λ r. ⌜ r ≡ answerTo (atTile call) (now (words .entry)) .refusal ⌝ }
-    ensures after { λ _. ⌜ now (words .exit) ≡ afterCall (atTile call) (now (words .entry)) ⌝ }
-    ensures report { λ _. ⌜ now (out .exit) ≡ reported (now (out .entry)) (answerWords (answerTo (atTile call) (now (words .entry)))) ⌝ }
+    ensures refusal { λ r. ⌜ r ≡ answerTo (callAtTile call) (now (words .entry)) .refusal ⌝ }
+    ensures after { λ _. ⌜ now (words .exit) ≡ afterCall (callAtTile call) (now (words .entry)) ⌝ }
+    ensures report { λ _. ⌜ now (out .exit) ≡ reported (now (out .entry)) (answerWords (answerTo (callAtTile call) (now (words .entry)))) ⌝ }
 {
     let answer = bench::at_tile(words, call.tag, call.tile, call.word, call.value);
     report_answer(out, answer)
@@ -91,9 +91,9 @@ pub extern "C" fn duzh_to_tile(words: &mut [u64], tile: u64, out: &mut [u64]) ->
 }
 
 fn run_home(words: &mut [u64], call: HomeCall, out: &mut [u64]) -> u64
-    ensures refusal { λ r. ⌜ r ≡ answerTo (atHome call) (now (words .entry)) .refusal ⌝ }
-    ensures after { λ _. ⌜ now (words .exit) ≡ afterCall (atHome call) (now (words .entry)) ⌝ }
-    ensures report { λ _. ⌜ now (out .exit) ≡ reported (now (out .entry)) (answerWords (answerTo (atHome call) (now (words .entry)))) ⌝ }
+    ensures refusal { λ r. ⌜ r ≡ answerTo (callAtHome call) (now (words .entry)) .refusal ⌝ }
+    ensures after { λ _. ⌜ now (words .exit) ≡ afterCall (callAtHome call) (now (words .entry)) ⌝ }
+    ensures report { λ _. ⌜ now (out .exit) ≡ reported (now (out .entry)) (answerWords (answerTo (callAtHome call) (now (words .entry)))) ⌝ }
 {
     let answer = bench::at_home(words, call.tag, call.tile);
     report_answer(out, answer)

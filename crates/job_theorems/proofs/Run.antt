@@ -7,7 +7,7 @@ use native.Mathlib.Omega.{arith}
 use borrow.Author.Tests.{lt-ltb, le-ltb, ltb-true, ltb-false, eq-eqb, ne-eqb, eqb-true, eqb-false}
 use lib.Dec.{ltb, leb, eqb}
 use lib.ListN.{length}
-use Rattle.calls.specs.Calls.{words, startOn, wordsStarted}
+use Rattle.calls.specs.Calls.{lentWords, startOn, wordsStarted}
 use Rattle.protocol.specs.Runs.{runs}
 use Rattle.theorems.proofs.Calls.{started}
 use Rattle.listing.specs.Lines.{benchLine, endLine, refusedLine}
@@ -173,7 +173,7 @@ run job l len y w h = go (eqb (checkJob job .refusal) 0) refl
 -- ---- the words that it leaves
 
 abbrev restWords : List ℕ → ℕ → List ℕ → List ℕ
-restWords job at l = runs words (map benchCall (callsAt job at)) l
+restWords job at l = runs lentWords (map benchCall (callsAt job at)) l
 
 words-end : (job : List ℕ) (at : ℕ) (l : List ℕ) → length job ≤ at → restWords job at l ≡ l
 unfolding runs
@@ -181,7 +181,7 @@ words-end job at l h = rw (calls-end job at h)
 
 words-call : (job : List ℕ) (at : ℕ) (l : List ℕ) → at < length job → restWords job at l ≡ restWords job (nextAt job at) (wordsAfterCall job at l)
 unfolding runs
-words-call job at l h = ap (λ (z : List CallNumbers). runs words (map benchCall z) l) (calls-step job at h ∙ ap₂ {C = List CallNumbers} (λ c p. c ∷ callsAt job p) (call-in job at h) (next-in job at h))
+words-call job at l h = ap (λ (z : List CallNumbers). runs lentWords (map benchCall z) l) (calls-step job at h ∙ ap₂ {C = List CallNumbers} (λ c p. c ∷ callsAt job p) (call-in job at h) (next-in job at h))
 
 abbrev wordsBehind : List ℕ → Left → List ℕ
 wordsBehind job x = cond (x .going) (restWords job (x .at) (x .words)) (x .words)

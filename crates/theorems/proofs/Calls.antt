@@ -13,7 +13,7 @@ use Rattle.protocol.specs.Parts.{Words, Bench, Call, Result, refused, accepted}
 use Rattle.protocol.specs.Bench.{fresh, step}
 use Rattle.protocol.specs.Answers.{answerOf}
 use Rattle.protocol.specs.Runs.{kept, after, rules, runs, Event, event, history}
-use Rattle.calls.specs.Calls.{tileCount, stepOn, wordsAfter, answerTo, afterCall, words, startOn, wordsStarted}
+use Rattle.calls.specs.Calls.{tileCount, stepOn, wordsAfter, answerTo, afterCall, lentWords, startOn, wordsStarted}
 use Rattle.theorems.specs.Calls.{Calls-are-steps, Calls-statement, Started-statement}
 use Rattle.theorems.proofs.WellFormed.{Encodes, encodes, decoded-in, decoded-encoded}
 
@@ -36,12 +36,12 @@ module _ (n : ℕ) (b : Bench) (r l : List ℕ) (i : InRange n b) (e : l ≡ enc
   on-words = ap (wordsAfter l) on-step ∙ kept-words n b r l e (encodes n b r l i e) (step c b)
 
 -- lists of calls
-words-run : (n : ℕ) (cs : List Call) (b : Bench) (r l : List ℕ) → InRange n b → l ≡ encode b ++ r → runs words cs l ≡ encode (runs rules cs b) ++ r
+words-run : (n : ℕ) (cs : List Call) (b : Bench) (r l : List ℕ) → InRange n b → l ≡ encode b ++ r → runs lentWords cs l ≡ encode (runs rules cs b) ++ r
 unfolding runs
 words-run n [] b r l i e = e
 words-run n (c ∷ cs) b r l i e = words-run n cs (after c b) r (afterCall c l) (after-in n c b i) (on-words n b r l i e c)
 
-history-run : (n : ℕ) (cs : List Call) (b : Bench) (r l : List ℕ) → InRange n b → l ≡ encode b ++ r → history words cs l ≡ history rules cs b
+history-run : (n : ℕ) (cs : List Call) (b : Bench) (r l : List ℕ) → InRange n b → l ≡ encode b ++ r → history lentWords cs l ≡ history rules cs b
 unfolding history
 history-run n [] b r l i e = refl
 history-run n (c ∷ cs) b r l i e =
@@ -50,7 +50,7 @@ history-run n (c ∷ cs) b r l i e =
 pub calls-are-steps : (n : ℕ) (b : Bench) (r l : List ℕ) (cs : List Call) → InRange n b → l ≡ encode b ++ r → Calls-are-steps l b r cs
 calls-are-steps n b r l cs i e =
     let w = words-run n cs b r l i e in
-    let z = encodes n (runs rules cs b) r (runs words cs l) (runs-in n cs b i) w in
+    let z = encodes n (runs rules cs b) r (runs lentWords cs l) (runs-in n cs b i) w in
     record { after = w; well-formed = z .well-formed; decodes = z .decodes; is-history = history-run n cs b r l i e }
 
 pub calls : Calls-statement

@@ -11,17 +11,17 @@ use Rattle.layout.specs.Decode.{decoded}
 use Rattle.protocol.specs.Parts.{Words, Bench, Call}
 use Rattle.protocol.specs.Bench.{fresh}
 use Rattle.protocol.specs.Runs.{rules, runs, history}
-use Rattle.calls.specs.Calls.{tileCount, wellFormed, words, startOn, wordsStarted}
+use Rattle.calls.specs.Calls.{tileCount, wellFormed, lentWords, startOn, wordsStarted}
 
 -- The list of calls cs on the words l, which are the bench b with r behind it, is the list of the rules' steps.
 pub record Calls-are-steps (l : List ℕ) (b : Bench) (r : List ℕ) (cs : List Call) : Type 0 where
   -- the words after it are those of the bench after it, and what stands behind stays
-  pub after : runs words cs l ≡ encode (runs rules cs b) ++ r
+  pub after : runs lentWords cs l ≡ encode (runs rules cs b) ++ r
   -- they are well formed again, and decode to that bench
-  pub well-formed : wellFormed (runs words cs l) ≡ true
-  pub decodes : decoded (runs words cs l) ≡ runs rules cs b
+  pub well-formed : wellFormed (runs lentWords cs l) ≡ true
+  pub decodes : decoded (runs lentWords cs l) ≡ runs rules cs b
   -- every answer is the rules', with the messages sent
-  pub is-history : history words cs l ≡ history rules cs b
+  pub is-history : history lentWords cs l ≡ history rules cs b
 
 -- from all well-formed words
 abbrev pub Calls-statement : Type 0

@@ -10,14 +10,14 @@ use Rattle.layout.specs.Blocks.{benchWords}
 use Rattle.protocol.specs.Parts.{Words, Call}
 use Rattle.protocol.specs.Demand3.{Demand3-from}
 use Rattle.protocol.specs.Order1.{Order1-from}
-use Rattle.calls.specs.Calls.{words, startOn, wordsStarted}
+use Rattle.calls.specs.Calls.{lentWords, startOn, wordsStarted}
 
 abbrev pub Demand3-of-calls : Type 0
 Demand3-of-calls =
     (n : ℕ) → 1 ≤ n → n ≤ MOST-TILES → (mem : Words) → length mem ≡ LINE-WORDS → (l : List ℕ) → benchWords n ≤ length l
-    → (cs : List Call) → Demand3-from words n (wordsStarted l n (startOn l n mem)) cs
+    → (cs : List Call) → Demand3-from lentWords n (wordsStarted l n (startOn l n mem)) cs
 
 abbrev pub Order1-of-calls : Type 0
 Order1-of-calls =
     (n : ℕ) → 1 ≤ n → n ≤ MOST-TILES → (mem : Words) → length mem ≡ LINE-WORDS → (l : List ℕ) → benchWords n ≤ length l
-    → (cs : List Call) → Order1-from words mem (wordsStarted l n (startOn l n mem)) cs
+    → (cs : List Call) → Order1-from lentWords mem (wordsStarted l n (startOn l n mem)) cs
