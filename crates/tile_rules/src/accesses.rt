@@ -1,4 +1,5 @@
-// Load, store and evict at a tile, decided on its numbers.
+// Load, store and evict at a tile, decided on its numbers. Whether the tile waits is asked in each state apart: where a hit and a miss meet
+// before they are told from a refusal, the compiler joins them and tells them apart again.
 ghost use mathlib.Core.Path.{_≡_};
 ghost use Rattle.tile_rules.specs.Moves.{load, store, evict};
 use crate::moves::TileMove;
@@ -20,8 +21,8 @@ pub fn load(tile: TileNumbers, word: u64) -> TileMove
     ensures { λ r. ⌜ r ≡ load tile word ⌝ }
 {
     if word < LINE_WORDS {
-        if tile.waits == WAITS_FOR_NOTHING {
-            if tile.state == STATE_I {
+        if tile.state == STATE_I {
+            if tile.waits == WAITS_FOR_NOTHING {
                 TileMove::Request {
                     message: LOAD_REQ,
                     waits: WAITS_FOR_LOAD,
@@ -29,10 +30,14 @@ pub fn load(tile: TileNumbers, word: u64) -> TileMove
                     value: 0,
                 }
             } else {
-                TileMove::Read(word)
+                TileMove::Refuse(TILE_WAITS)
             }
         } else {
-            TileMove::Refuse(TILE_WAITS)
+            if tile.waits == WAITS_FOR_NOTHING {
+                TileMove::Read(word)
+            } else {
+                TileMove::Refuse(TILE_WAITS)
+            }
         }
     } else {
         TileMove::Refuse(NO_WORD)
@@ -44,8 +49,8 @@ pub fn store(tile: TileNumbers, word: u64, value: u64) -> TileMove
     ensures { λ r. ⌜ r ≡ store tile word value ⌝ }
 {
     if word < LINE_WORDS {
-        if tile.waits == WAITS_FOR_NOTHING {
-            if tile.state < STATE_E {
+        if tile.state < STATE_E {
+            if tile.waits == WAITS_FOR_NOTHING {
                 TileMove::Request {
                     message: STORE_REQ,
                     waits: WAITS_FOR_STORE,
@@ -53,10 +58,14 @@ pub fn store(tile: TileNumbers, word: u64, value: u64) -> TileMove
                     value,
                 }
             } else {
-                TileMove::Store { word, value }
+                TileMove::Refuse(TILE_WAITS)
             }
         } else {
-            TileMove::Refuse(TILE_WAITS)
+            if tile.waits == WAITS_FOR_NOTHING {
+                TileMove::Store { word, value }
+            } else {
+                TileMove::Refuse(TILE_WAITS)
+            }
         }
     } else {
         TileMove::Refuse(NO_WORD)
