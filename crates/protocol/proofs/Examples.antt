@@ -1,7 +1,7 @@
 -- Steps of 01 that two tiles cannot show, and what the words of the statements say of some benches, computed. Assumes nothing.
 use Prim.Native.Nat.{ℕ}
-use mathlib.Core.Path.{_≡_, refl, ap}
-use mathlib.Core.Bool.{cond, true, false}
+use mathlib.Core.Path.{_≡_, refl, ap, sym}
+use mathlib.Core.Bool.{cond, true, false, false≢true}
 use mathlib.Core.List.{List, [], _∷_, map}
 use mathlib.Core.Option.{some, none}
 use Rattle.masks.specs.Mask.{has, add, del}
@@ -10,10 +10,10 @@ use Rattle.protocol.specs.Tile.{loadAt}
 use Rattle.protocol.specs.Home.{move, range, invAck, serve}
 use Rattle.protocol.specs.Bench.{fresh, push, front, rest, onTile1, sendOne, sendTo, send, outcome, posted, kindOf, settle, atTile, atWord, circle, firstOf, eligible, arbitrate, noc1, popNoc1, served, takeFront, takeChosen, takingOn, noc2, noc3, step}
 use Rattle.protocol.specs.Calls.{callTable, callFrom, isDelivery}
-use Rattle.protocol.specs.Answers.{sentOn, sentTo, answerOf, isAccepted, hasKind}
+use Rattle.protocol.specs.Answers.{sentOn, sentTo, answerOf, isAccepted, hasKind, refusal, acceptance}
 use Rattle.protocol.specs.Runs.{kept, after, rules, runs, history, waitsForBy, waitsForAfter, waitsForSince, waitsFor}
-use Rattle.protocol.specs.Demand3.{isWaiting, waits, tilesOf, one-if, isEmpty, memoryDelivery, fromDelivery, toDelivery, nextDelivery, Quiet, isRequest, requestAtFront, takesBy, takesTile, takesAnother, passesOver, passedOver}
-use Rattle.protocol.specs.Order1.{holds, mayWrite, names}
+use Rattle.protocol.specs.Demand3.{isWaiting, waits, tilesOf, one-if, isEmpty, memoryDelivery, fromDelivery, toDelivery, nextDelivery, Quiet, isRequest, requestAtFront, takesBy, takesTile, takesAnother, passesOver, passedOver, isMisfit}
+use Rattle.protocol.specs.Order1.{holds, mayWrite, names, AnswersNeither}
 use Rattle.protocol.proofs.Tests.{false-true}
 
 asking : Tile
@@ -63,3 +63,13 @@ who-holds : (map (λ c. holds (tileOf c nothing empty empty empty) ∷ mayWrite 
     × (map (names (sharedBy 5)) (range 0 3) ≡ true ∷ false ∷ true ∷ []) × (map (names (ownedBy 1)) (range 0 2) ≡ false ∷ true ∷ [])
 unfolding range holds mayWrite names has
 who-holds = (refl, refl, refl)
+
+-- refusals 8 and 9 count as misfits, and no other
+misfits : map isMisfit (refusal 0 ∷ refusal 7 ∷ refusal 8 ∷ refusal 9 ∷ []) ≡ false ∷ false ∷ true ∷ true ∷ []
+unfolding isMisfit
+misfits = refl
+
+-- an answer of kind 1 or 2 answers a load or a store
+not-neither : (AnswersNeither (acceptance 1 0 []) → ⊥) × (AnswersNeither (acceptance 2 0 []) → ⊥)
+unfolding hasKind
+not-neither = ((λ x. false≢true (sym (x .0))), (λ x. false≢true (sym (x .1))))
