@@ -4,6 +4,8 @@
 //     c CASE ROOM CALL TILE WORD VALUE                  a call on the first ROOM words; CALL is the tag that jobs give it
 //     s CASE ROOM TILES MEMORY.. (8)                    a start on the first ROOM words
 // Any other line is a remark. A call prints: case; well formed before it; refusal, kind, value, sent, tiles; each changed place.
+#![tactic(auto)]
+
 ghost use Rattle.std.specs.Prelude.{◌≡◌, length};
 ghost use Rattle.bench_vectors.specs.Sizes.{input_bytes};
 

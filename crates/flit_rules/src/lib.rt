@@ -3,6 +3,7 @@
 // (the calls that do both, and the statements that reading and writing are each other's inverse). specs/Columns is a device of the proofs.
 // specs/Examples has 01's own messages, which proofs/Examples computes. The code is in flit_fields, flit_table, flit_checks, flit_reader and flit_writer;
 // `flits` passes all of it on, and is the only flit crate that the rooms above name.
+#![tactic(auto)]
 
 // header flits behind the first, of a type with three
 pub const EXTRA_FLITS: u64 = 2;

@@ -4,6 +4,8 @@
 //     w FIELD.. (18) ROOM PLACE WORD..              writes a message into a buffer of ROOM flits, at most 16, all EEEEEEEEEEEEEEEE
 //     k FLIT..                                      walks a recording
 // Any other line is a remark.
+#![tactic(auto)]
+
 use flits::{Header, Node};
 use libc::STDOUT_FILENO;
 use program_io::{number_at, print_decimal, print_named, print_text, print_words};

@@ -1,6 +1,8 @@
 // Prints a job's listing, or only the line of its refusal (01, 'Jobs'), on standard output, piece by piece, as jobs puts it into a buffer.
 // print does so with lent words and a lent buffer of any size, print_job with those of a program, which are enough for every job
 // (specs/Sizes). What is written no contract can say; that every piece was made, in turn, the words after them say.
+#![tactic(auto)]
+
 ghost use Rattle.std.specs.Prelude.{◌≡◌, ◌≤◌, length, take};
 ghost use Rattle.job_rules.specs.Pieces.{words_printed};
 ghost use Rattle.job_print.specs.Sizes.{Enough};

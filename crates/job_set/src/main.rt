@@ -1,5 +1,7 @@
 // Runs every job that its arguments name, a file each, and prints behind a line with the name the listing, or the line of the refusal;
 // before them the same of every cut of the first one: its first n bytes, for each n below its length.
+#![tactic(auto)]
+
 ghost use Rattle.std.specs.Prelude.{◌≤◌, length};
 
 use job_print::{BENCH_WORDS, BUFFER_BYTES, INPUT_BYTES};

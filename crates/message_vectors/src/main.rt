@@ -1,6 +1,8 @@
 // Writes the flits of a message of each kind, a line each, in lower-case hexadecimal digits: the four of document 01's listing, then one of
 // each type with tile 13 and the last line of the address space, then what is refused. tests/model writes the same lines from its own reading
 // of the paper.
+#![tactic(auto)]
+
 use flits::{ADDRESS_LIMIT, MOST_FLITS};
 use layout::Row;
 use numbers::limits::{LINE_LENGTH, LINE_WORDS};

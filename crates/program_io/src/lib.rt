@@ -1,5 +1,7 @@
 // What programs read and write. No contract can say what is written; what a test's input says is read by functions on slices.
 // In reading order: cases, the lines of a test's input; printing, what is printed for them and for a job.
+#![tactic(auto)]
+
 mod cases;
 mod printing;
 

@@ -1,5 +1,7 @@
 // Runs the job on standard input and prints its listing, or only the line of its refusal (01, 'Jobs'). It holds the job, the bench and
 // one buffer.
+#![tactic(auto)]
+
 use job_print::{BENCH_WORDS, BUFFER_BYTES, INPUT_BYTES};
 use libc::STDIN_FILENO;
 
