@@ -12,7 +12,7 @@ pub const EXTRA_FLITS: u64 = 2;
 pub const MOST_FLITS: usize = 11;
 
 // A place on the chip's networks: 01's chip, x, y, port.
-#[derive(Drop)]
+#[derive(Clone, Copy)]
 pub struct Node {
     pub chip: u64,
     pub x: u64,
@@ -21,7 +21,7 @@ pub struct Node {
 }
 
 // The fields of a message. `opcode` is 01's type, `address54` its address_5_4, `to` the destination, `from` the source.
-#[derive(Drop)]
+#[derive(Clone, Copy)]
 pub struct Header {
     pub opcode: u64,
     pub tag: u64,
@@ -38,7 +38,7 @@ pub struct Header {
 }
 
 // What the table allows a type.
-#[derive(Drop)]
+#[derive(Clone, Copy)]
 pub struct TypeRow {
     // 1 to 3; 0 where the type is not in the table
     pub network: u64,
@@ -69,7 +69,7 @@ pub struct TypeRow {
 }
 
 // What a read answers: refusal number 0 with the fields, the flits used and the place where the data start; or the number alone.
-#[derive(Drop)]
+#[derive(Clone, Copy)]
 pub struct Read {
     pub refusal: u64,
     pub header: Header,
@@ -78,7 +78,7 @@ pub struct Read {
 }
 
 // What a write answers: refusal number 0 with the flits written; or the number, and 0.
-#[derive(Drop)]
+#[derive(Clone, Copy)]
 pub struct Written {
     pub refusal: u64,
     pub flits: usize,

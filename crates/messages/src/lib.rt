@@ -24,7 +24,7 @@ pub use queues::count;
 
 // A message that was sent: the number of its queue, the tile whose queue it is (0 for memory's), and its row: type, word, state, flag, data.
 // Where there is none the row has no type.
-#[derive(Drop)]
+#[derive(Clone, Copy)]
 pub struct Sent {
     pub queue: u64,
     pub tile: u64,

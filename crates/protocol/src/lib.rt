@@ -6,7 +6,7 @@
 
 // What a call answers: refusal number, kind and value; on which queues it sent messages, by number, and the tiles whose queues they are,
 // as a mask.
-#[derive(Drop)]
+#[derive(Clone, Copy)]
 pub struct Answer {
     pub refusal: u64,
     pub kind: u64,
