@@ -12,7 +12,7 @@ use Rattle.masks.proofs.MaskLaws.{del_lt}
 use Rattle.layout.specs.declared.rows.Row.{Row}
 use Rattle.layout.specs.declared.rows.HomeBlock.{HomeBlock}
 use Rattle.layout.specs.Encode.{zeros, no_row, flag, enc_request, enc_forward, enc_reply, enc_to_memory, enc_from_memory, enc_queue, directory_number, holders, enc_line, line_of, phase_number, requester, owed_tiles, enc_home}
-use Rattle.protocol.specs.Parts.{Words, Queue, empty, one, two, Access, reading, writing, State, exclusive, modified, Request, load_req, store_req, wb_guard_req, inv_fwd, Reply, wb_req, load_fwd_ack_s, load_fwd_ack_i, store_fwd_ack, inv_fwd_ack, ToMemory, load_mem, store_mem, FromMemory, load_mem_ack, store_mem_ack, from_memory, Directory, uncached, shared_by, owned_by, Line, absent, present, Cause, request, eviction, Clearing, clear_for, clear_for_eviction, Home, idle, awaiting_load, awaiting_owner, awaiting_acks, awaiting_store, Task, task, Write, storing, state_number}
+use Rattle.protocol.specs.Parts.{Words, Queue, empty, one, two, Access, reading, writing, Request, load_req, store_req, wb_guard_req, inv_fwd, Reply, wb_req, load_fwd_ack_s, load_fwd_ack_i, store_fwd_ack, inv_fwd_ack, ToMemory, load_mem, store_mem, FromMemory, load_mem_ack, store_mem_ack, from_memory, Directory, uncached, shared_by, owned_by, Line, absent, present, Cause, request, eviction, Clearing, clear_for, clear_for_eviction, Home, idle, awaiting_load, awaiting_owner, awaiting_acks, awaiting_store, task, storing, state_number}
 use Rattle.protocol.specs.Home as rules
 use Rattle.protocol.specs.Home.{move}
 use Rattle.protocol.specs.Bench.{push, front, rest, kind_of}

@@ -10,7 +10,7 @@ use lib.Dec.{eqb}
 use borrow.Author.Tests.{eqb-false}
 use Rattle.masks.specs.Mask.{has, add, del}
 use Rattle.masks.proofs.MaskLaws.{del_lt}
-use Rattle.protocol.specs.Parts.{Words, Queue, one, Access, reading, writing, State, shared, exclusive, modified, Request, load_req, store_req, wb_guard_req, Forward, inv_fwd, data_ack, Reply, wb_req, load_fwd_ack_s, load_fwd_ack_i, store_fwd_ack, inv_fwd_ack, ToMemory, load_mem, store_mem, FromMemory, load_mem_ack, store_mem_ack, on_noc2, to_memory, from_memory, uncached, shared_by, owned_by, Line, absent, present, Cause, request, eviction, Clearing, clear_for, clear_for_eviction, Home, idle, awaiting_load, awaiting_owner, awaiting_acks, awaiting_store, Task, task, Write, storing}
+use Rattle.protocol.specs.Parts.{Words, Queue, Access, reading, writing, shared, Request, load_req, store_req, wb_guard_req, Forward, inv_fwd, data_ack, Reply, wb_req, load_fwd_ack_s, load_fwd_ack_i, store_fwd_ack, inv_fwd_ack, ToMemory, load_mem, store_mem, FromMemory, load_mem_ack, store_mem_ack, on_noc2, to_memory, from_memory, uncached, shared_by, owned_by, Line, absent, present, Cause, request, eviction, Clearing, clear_for, clear_for_eviction, Home, idle, awaiting_load, awaiting_owner, awaiting_acks, awaiting_store, task, storing}
 use Rattle.protocol.specs.Home.{Move, move, grant_shared, grant, asked_for, ask_owner, invalidate_to, invalidate, leave, serve, write_back, load_ack_s, load_ack_i, store_ack, cleared, inv_ack, acknowledged, evict_line, ack_dirty, ack_words, grant_message, granted_line}
 use Rattle.protocol.specs.Bench.{push, front, rest}
 use Rattle.layout.specs.Range.{LineIn, ClearingIn, HomeIn}

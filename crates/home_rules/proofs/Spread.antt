@@ -5,7 +5,7 @@ use mathlib.Core.List.{List, [], ◌∷◌}
 use mathlib.Core.Option.{Option, some, none, map}
 use lib.ListN.{length, set}
 use Rattle.masks.specs.Mask.{has}
-use Rattle.protocol.specs.Parts.{Words, Queue, reading, writing, Request, load_req, store_req, wb_guard_req, Reply, wb_req, load_fwd_ack_s, load_fwd_ack_i, store_fwd_ack, inv_fwd_ack, ToMemory, load_mem, store_mem, FromMemory, load_mem_ack, store_mem_ack, Message, on_noc1, on_noc2, on_noc3, to_memory, from_memory, Tile, Line, absent, present, Home, idle, awaiting_load, awaiting_owner, awaiting_acks, awaiting_store, Bench, bench_of, Task, task, Write, storing}
+use Rattle.protocol.specs.Parts.{Words, Queue, reading, writing, Request, load_req, store_req, wb_guard_req, Reply, wb_req, load_fwd_ack_s, load_fwd_ack_i, store_fwd_ack, inv_fwd_ack, ToMemory, load_mem, store_mem, FromMemory, load_mem_ack, store_mem_ack, Message, on_noc1, on_noc2, on_noc3, to_memory, from_memory, Tile, Line, absent, present, Home, idle, awaiting_load, awaiting_owner, awaiting_acks, awaiting_store, Bench, bench_of, task, storing}
 use Rattle.protocol.specs.Home.{Move, move, serve, write_back, load_ack_s, load_ack_i, store_ack, inv_ack, acknowledged, evict_line}
 use Rattle.protocol.specs.Bench.{tile_at, push, front, rest, on_tile1, on_tile2, on_tile3, send_one, send_to, send, outcome, posted, kind_of, served, take_front, written_back, fitted, accept_reply, memory_serves, memory_step_on, accept_ack, memory_ack_on, home_eviction_on}
 use Rattle.home_rules.specs.Results.{MemoryQueues, queues_of, put_memory, put_memory_to, put_memory_all, forward_one, forward_to, forward_all, spread, went_with, moved_home, fitting_home, taken_home, written_home, accepted_home, served_memory, stepped_home, acked_front, acked_home, evicted_home}

@@ -1,6 +1,6 @@
 -- A device of the proofs: no public promise rests on it alone. The rules of the home without the tiles: each call gives the home, last taken, marks, memory and memory queues after it, and the
 -- messages that it sends. What it sends to or from memory is on its queue already; what it sends to tiles is not.
-use Rattle.std.specs.Prelude.{ℕ, ◌<◌, ◌^◌, ◌≡◌, Bool, cond, true, false, List, [], ◌∷◌, map}
+use Rattle.std.specs.Prelude.{ℕ, ◌<◌, ◌^◌, ◌≡◌, List, [], ◌∷◌, map}
 use Rattle.std.proofs.Math.Option
 use Rattle.std.proofs.Math.Option.{Option, some, none}
 use Rattle.masks.specs.Mask.{has, add, del, add64}
@@ -9,7 +9,7 @@ use Rattle.protocol.specs.Answers.{sent_on}
 use Rattle.layout.specs.declared.rows.Row.{Row}
 use Rattle.layout.specs.declared.rows.HomeBlock.{HomeBlock}
 use Rattle.layout.specs.Encode.{no_row, enc_forward, enc_home}
-use Rattle.protocol.specs.Parts.{Words, Queue, empty, one, two, Access, reading, writing, Request, load_req, store_req, wb_guard_req, Forward, Reply, wb_req, load_fwd_ack_s, load_fwd_ack_i, store_fwd_ack, inv_fwd_ack, ToMemory, load_mem, store_mem, FromMemory, load_mem_ack, store_mem_ack, Message, on_noc1, on_noc2, on_noc3, to_memory, from_memory, Tile, Directory, uncached, shared_by, owned_by, Line, absent, present, Cause, request, eviction, Clearing, clear_for, clear_for_eviction, Home, idle, awaiting_load, awaiting_owner, awaiting_acks, awaiting_store, Bench, bench_of, Result, refused, Task, task, Write, storing}
+use Rattle.protocol.specs.Parts.{Words, Queue, reading, writing, Request, load_req, store_req, wb_guard_req, Forward, Reply, wb_req, load_fwd_ack_s, load_fwd_ack_i, store_fwd_ack, inv_fwd_ack, ToMemory, load_mem, store_mem, FromMemory, load_mem_ack, store_mem_ack, Message, on_noc1, on_noc2, on_noc3, to_memory, from_memory, Tile, Line, absent, present, Home, idle, awaiting_load, awaiting_owner, awaiting_acks, awaiting_store, Bench, bench_of, Result, refused, task, storing}
 use Rattle.protocol.specs.Home.{Move, move, members, serve, write_back, load_ack_s, load_ack_i, store_ack, inv_ack, acknowledged, evict_line}
 use Rattle.protocol.specs.Bench.{push, front, rest, send_one, outcome, kind_of}
 use Rattle.home_rules.specs.declared.moves.HomeStep.{HomeStep}
