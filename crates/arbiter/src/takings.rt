@@ -12,7 +12,7 @@ use layout::places::{HOME_LAST_TAKEN, HOME_MARKS, HOME_PHASE, HOME_WORDS, TILE_N
 use numbers::refusals::{NOT_IDLE, NOTHING_THERE};
 
 // The value answered, the place of the queue whose front message is answered (NO_PLACE: it answers none), and the move.
-#[derive(Drop)]
+#[derive(Clone, Copy)]
 pub struct Decision {
     pub value: u64,
     pub place: usize,

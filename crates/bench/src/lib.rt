@@ -2,6 +2,8 @@
 // input, by crate calls' answerTo and afterCall.
 // - starting: start; tile: the calls at a tile; home: the calls at the home
 // - specs/Serves: a device of the proofs
+#![tactic(auto)]
+
 mod home;
 mod starting;
 mod tile;

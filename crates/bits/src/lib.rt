@@ -1,5 +1,7 @@
 // Words of 64 bits: shifts of any length, and fields by place and width. specs/Field says what a field is; its laws are in
 // proofs/FieldLaws. Every call has an answer for every input: what a word cannot hold is 0 or is left as it is, as the definitions say.
+#![tactic(auto)]
+
 ghost use Rattle.std.specs.Prelude.{cond, ◌≡◌, ◌*◌, ◌/◌, ◌%◌, ◌^◌};
 ghost use Rattle.bits.specs.Field.{word_bits, cut, put64};
 

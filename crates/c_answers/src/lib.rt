@@ -1,5 +1,7 @@
 // What a function for C reports of its answer: words at the start of lent ones, where they all fit.
 // - reports (specs/Reports): words put there; answers, reads, jobs (specs/Words): the words of each answer
+#![tactic(auto)]
+
 mod answers;
 mod jobs;
 mod reads;

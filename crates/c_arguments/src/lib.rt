@@ -1,5 +1,7 @@
 // What the functions for C are given in lent words: a start's memory words, a message's fields, the numbers of a call's answer.
 // - starting, fields, writing, sent (specs/Arguments, in this order)
+#![tactic(auto)]
+
 pub mod fields;
 mod sent;
 mod starting;

@@ -8,7 +8,7 @@ use numbers::tags::{
 };
 
 // The tag (taking, delivery from a tile, memory step, memory ack, else home eviction), and the tile where the call names one.
-#[derive(Drop)]
+#[derive(Clone, Copy)]
 pub struct HomeCall {
     pub tag: u64,
     pub tile: u64,

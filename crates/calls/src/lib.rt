@@ -1,6 +1,8 @@
 // Each call on lent words, as definitions: document 01's step of the bench that the words are. The code that does it is crate bench.
 // - specs/Calls: what words are a bench, the answer to a call, the words after it, and start; lent words as a machine of crate protocol
 // - answers: what a call answers; tile_calls, home_calls (specs/Numbered): the calls by their numbers
+#![tactic(auto)]
+
 mod answers;
 mod home_calls;
 mod tile_calls;

@@ -7,7 +7,7 @@ ghost use Rattle.calls.specs.Numbered.{call_at_tile};
 use numbers::tags::{TAG_EVICT, TAG_LOAD, TAG_STORE, TAG_TO_TILE};
 
 // The tag (load, store, evict, else delivery to the tile), the tile, and of word and value what the call has.
-#[derive(Drop)]
+#[derive(Clone, Copy)]
 pub struct TileCall {
     pub tag: u64,
     pub tile: u64,

@@ -1,6 +1,8 @@
 // All of it for programs in other languages, but for a job's calls (crate job_exports). Numbers, and lent words as pointer and length, go in;
 // each function returns the refusal number and reports the whole answer. include/duzhmarqi.h says the same for C. The definitions are those of
 // the crates just below: c_arguments for what is given, c_answers for what is reported.
+#![tactic(auto)]
+
 ghost use Rattle.std.specs.Prelude.{◌≡◌, length, drop};
 ghost use Rattle.protocol.specs.Parts.{load, store, evict, taking, to_tile, from_tile, memory_step, memory_ack, home_eviction};
 ghost use Rattle.protocol.specs.Answers.{answer_of};

@@ -1,5 +1,7 @@
 // The tests of a message, each by the refusal that is given where it fails: specs/Rules of flit_rules.
 // Files: types (11 and 12), ports (14), reserved (15), fields (16: too wide, absent, not allowed).
+#![tactic(auto)]
+
 mod fields;
 mod ports;
 mod reserved;

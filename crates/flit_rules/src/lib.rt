@@ -3,6 +3,7 @@
 // (the calls that do both, and the statements that reading and writing are each other's inverse). specs/Columns is a device of the proofs.
 // specs/Examples has 01's own messages, which proofs/Examples computes. The code is in flit_fields, flit_table, flit_checks, flit_reader and flit_writer;
 // `flits` passes all of it on, and is the only flit crate that the rooms above name.
+#![tactic(auto)]
 
 // header flits behind the first, of a type with three
 pub const EXTRA_FLITS: u64 = 2;
@@ -11,7 +12,7 @@ pub const EXTRA_FLITS: u64 = 2;
 pub const MOST_FLITS: usize = 11;
 
 // A place on the chip's networks: 01's chip, x, y, port.
-#[derive(Drop)]
+#[derive(Clone, Copy)]
 pub struct Node {
     pub chip: u64,
     pub x: u64,
@@ -20,7 +21,7 @@ pub struct Node {
 }
 
 // The fields of a message. `opcode` is 01's type, `address54` its address_5_4, `to` the destination, `from` the source.
-#[derive(Drop)]
+#[derive(Clone, Copy)]
 pub struct Header {
     pub opcode: u64,
     pub tag: u64,
@@ -37,7 +38,7 @@ pub struct Header {
 }
 
 // What the table allows a type.
-#[derive(Drop)]
+#[derive(Clone, Copy)]
 pub struct TypeRow {
     // 1 to 3; 0 where the type is not in the table
     pub network: u64,
@@ -68,7 +69,7 @@ pub struct TypeRow {
 }
 
 // What a read answers: refusal number 0 with the fields, the flits used and the place where the data start; or the number alone.
-#[derive(Drop)]
+#[derive(Clone, Copy)]
 pub struct Read {
     pub refusal: u64,
     pub header: Header,
@@ -77,7 +78,7 @@ pub struct Read {
 }
 
 // What a write answers: refusal number 0 with the flits written; or the number, and 0.
-#[derive(Drop)]
+#[derive(Clone, Copy)]
 pub struct Written {
     pub refusal: u64,
     pub flits: usize,

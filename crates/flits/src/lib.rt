@@ -2,6 +2,8 @@
 // a recording is walked. What each call promises is an equation with a definition of specs/, for every input; no call requires anything.
 // specs/ and proofs/ pass on what the rooms above name of flit_rules; read there specs/Words, Table, Rules, Reading, Writing, RoundTrips.
 // Files here: rounds (read and written again, written and read back), walker (and specs/Walk).
+#![tactic(auto)]
+
 mod rounds;
 pub mod walker;
 

@@ -7,7 +7,7 @@ ghost use Rattle.flits.specs.Walk.{walk_of};
 use flit_rules::Read;
 use numbers::refusals::ACCEPTED;
 
-#[derive(Drop)]
+#[derive(Clone, Copy)]
 pub struct Walker<'a> {
     pub flits: &'a [u64],
     pub at: usize,
@@ -45,7 +45,7 @@ pub fn step(flits: &[u64], at: usize) -> Read
 }
 
 // How far a recording was walked: the messages passed, the place behind them, and the refusal of what stands there (10 at the end).
-#[derive(Drop)]
+#[derive(Clone, Copy)]
 pub struct Walked {
     pub messages: usize,
     pub at: usize,

@@ -3,6 +3,8 @@
 // - requests: taking; replies: delivery from a tile; memory: memory ack; eviction: home eviction
 // - specs/Steps: what a move makes of the home's block; specs/Results: the rules of document 01 without the tiles; proofs/Rules: that the
 //   two are one
+#![tactic(auto)]
+
 mod eviction;
 mod memory;
 pub mod moves;

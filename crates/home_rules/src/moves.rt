@@ -36,7 +36,7 @@ pub const MISS: u64 = 1;
 
 // The numbers by which the home decides: its phase; valid, dirty, directory and holders (sharers' mask or owner) of the line; last taken,
 // marks, requester and owed tiles; and the type of the second message to memory (none: there is room for it).
-#[derive(Drop)]
+#[derive(Clone, Copy)]
 pub struct HomeNumbers {
     pub phase: u64,
     pub valid: u64,
@@ -53,7 +53,7 @@ pub struct HomeNumbers {
 // What a step of the home comes to: its refusal number and kind; the numbers after it; where the line's words come from; on which queue it
 // sends; the mask of the tiles on NoC2; the type of the message to memory, which has the line's words if it is STORE_MEM; type, state and L2
 // miss of the message for the tiles, which has the line's words if it is DATA_ACK.
-#[derive(Drop)]
+#[derive(Clone, Copy)]
 pub struct HomeMove {
     pub refusal: u64,
     pub kind: u64,
@@ -68,7 +68,7 @@ pub struct HomeMove {
 }
 
 // A step as the definitions tell it: what it answers, the block after it, and the message for the tiles of the mask `to`.
-#[derive(Drop)]
+#[derive(Clone, Copy)]
 pub struct HomeStep {
     pub refusal: u64,
     pub kind: u64,

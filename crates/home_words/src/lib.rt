@@ -4,6 +4,8 @@
 // - moves: what a move changes in the home's block; forwards: its message put on NoC2 of every tile of a mask
 // - commits: a move made with all that it sends; memory: the memory's step
 // - specs/InPlace, specs/Forwards, specs/Commits: what these promise, as devices of the proofs
+#![tactic(auto)]
+
 mod commits;
 mod fields;
 mod forwards;

@@ -1,5 +1,7 @@
 // The calls of a job made one by one, with their lines of the listing. Apart from the other exported functions, so that the compiler has
 // one caller of each call on a bench, and puts it in there. specs/Arguments: which call of a job it is.
+#![tactic(auto)]
+
 ghost use Rattle.std.specs.Prelude.{◌≡◌, ◌∷◌, []};
 ghost use Rattle.calls.specs.Calls.{answer_to, after_call};
 ghost use Rattle.job_format.specs.Job.{job_call_at};

@@ -11,7 +11,7 @@ use crate::places::{
 };
 
 // A call that a job holds, and the place of the field behind it.
-#[derive(Drop)]
+#[derive(Clone, Copy)]
 pub struct JobCall {
     pub tag: u64,
     pub tile: u64,

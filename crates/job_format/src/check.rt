@@ -9,7 +9,7 @@ use numbers::limits::MOST_JOB_BYTES;
 use numbers::refusals::{ACCEPTED, JOB_PLACE, JOB_TOO_LONG};
 
 // The answer of a check: refusal 0 accepts the job, any other number is 01's, of the field at the offset.
-#[derive(Drop)]
+#[derive(Clone, Copy)]
 pub struct Checked {
     pub refusal: u64,
     pub offset: usize,

@@ -5,6 +5,8 @@
 // - check (specs/Check): the check of a whole job
 // - header, calls (specs/Job): what an accepted job holds
 // specs/Accepted says what holds of an accepted job; proofs/Examples has a job for each refusal.
+#![tactic(auto)]
+
 mod bytes;
 mod calls;
 mod check;

@@ -3,6 +3,8 @@
 // - specs/Calls, AnswerLines, Listing: a job's call, the lines of its answer, the whole listing
 // - specs/Buffers, Room: lines put into a buffer, and how many bytes a call's lines can be
 // - states (specs/RunStates), specs/Pieces: where a run stands between its pieces, and what each piece is
+#![tactic(auto)]
+
 mod states;
 
 pub use states::{MOST_CALL_BYTES, Run, begin, resume, run_state};

@@ -9,7 +9,7 @@ pub const MOST_CALL_BYTES: usize = 12180;
 
 // A run after a piece: how many bytes of the listing stand at the buffer's start, whether there are more, where the next call stands in
 // the job, and how many calls were made.
-#[derive(Drop)]
+#[derive(Clone, Copy)]
 pub struct Run {
     pub put: usize,
     pub going: bool,

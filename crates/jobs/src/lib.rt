@@ -4,6 +4,8 @@
 // - arguments: what a job gives to a bench; message_lines, call_lines: the lines of a call; ends: a run's last line
 // - lib: a call made, and the pieces
 // The definitions are crate job_rules.
+#![tactic(auto)]
+
 mod arguments;
 mod call_lines;
 mod ends;

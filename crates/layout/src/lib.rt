@@ -3,6 +3,8 @@
 // - rows (specs/Blocks): rows of four numbers and eight words; the definitions put blocks together of them
 // - queues (specs/Queues): a message put on a queue or taken off
 // - specs/Encode, Decode, Canonical: a bench as numbers and back; Range: what 01 calls in range
+#![tactic(auto)]
+
 pub mod codes;
 pub mod places;
 mod queues;

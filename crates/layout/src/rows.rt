@@ -8,7 +8,7 @@ ghost use Rattle.layout.specs.Blocks.{row_at, row_words};
 use crate::places::ROW_DATA;
 use numbers::limits::LINE_LENGTH;
 
-#[derive(Drop)]
+#[derive(Clone, Copy)]
 pub struct Row {
     pub n0: u64,
     pub n1: u64,
@@ -17,14 +17,14 @@ pub struct Row {
     pub words: [u64; LINE_LENGTH],
 }
 
-#[derive(Drop)]
+#[derive(Clone, Copy)]
 pub struct Pair {
     pub a: Row,
     pub b: Row,
 }
 
 // A tile: its head, and its queues on NoC1, NoC2 and NoC3.
-#[derive(Drop)]
+#[derive(Clone, Copy)]
 pub struct TileBlock {
     pub head: Row,
     pub noc1: Pair,
@@ -33,7 +33,7 @@ pub struct TileBlock {
 }
 
 // The number of tiles, the home's phase, its line, its control row with the memory's words, the queues to and from memory.
-#[derive(Drop)]
+#[derive(Clone, Copy)]
 pub struct HomeBlock {
     pub count: u64,
     pub phase: u64,

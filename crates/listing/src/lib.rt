@@ -4,6 +4,8 @@
 // - digits (specs/Digits): numbers in decimal and hexadecimal
 // - lines (specs/Lines): a line of each kind
 // proofs/Examples has 01's listing, byte for byte.
+#![tactic(auto)]
+
 mod digits;
 mod lines;
 

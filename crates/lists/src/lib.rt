@@ -1,5 +1,7 @@
 // Room in a lent buffer, and bytes put into it. specs/Over says what a list is after numbers were written over it from a place on;
 // proofs/OverLaws has its laws.
+#![tactic(auto)]
+
 ghost use Rattle.std.specs.Prelude.{◌≡◌, ◌+◌, ◌≤◌, ◌∷◌, [], leb, length};
 ghost use Rattle.lists.specs.Over.{Put};
 

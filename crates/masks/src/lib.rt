@@ -1,5 +1,7 @@
 // Sets of tiles as bit masks in a word of 64 bits: specs/Mask, and specs/Next for the first tile of a mask.
 // Every call has an answer for every input: a tile that a word cannot hold is not in it, and neither put in nor taken out.
+#![tactic(auto)]
+
 ghost use Rattle.std.specs.Prelude.{◌≡◌};
 ghost use Rattle.masks.specs.Mask.{has, add64, del};
 ghost use Rattle.masks.specs.Next.{next};

@@ -1,5 +1,7 @@
 // Document 01, 'Flits of a bench': the flits of a message on a queue of the bench, written by the flit part's promise alone.
 // - fields (specs/Fields): the fields of a bench's message
+#![tactic(auto)]
+
 mod fields;
 
 ghost use Rattle.std.specs.Prelude.{◌≡◌, length};

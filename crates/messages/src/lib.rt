@@ -1,6 +1,8 @@
 // The messages that a call sent, read out of the words after it. An answer says in two numbers, `sent` and `tiles`, on which queues they
 // are; each is the last of its queue.
 // - queues (specs/Queues): the queues of an answer; lib (specs/Rows): the message on one; specs/LastMessages is a device of the proofs
+#![tactic(auto)]
+
 mod queues;
 
 ghost use Rattle.std.specs.Prelude.{◌≡◌, ◌≤◌, length, get_or};
@@ -22,7 +24,7 @@ pub use queues::count;
 
 // A message that was sent: the number of its queue, the tile whose queue it is (0 for memory's), and its row: type, word, state, flag, data.
 // Where there is none the row has no type.
-#[derive(Drop)]
+#[derive(Clone, Copy)]
 pub struct Sent {
     pub queue: u64,
     pub tile: u64,

@@ -8,7 +8,7 @@ use numbers::limits::MOST_TILES;
 use numbers::queues::{FROM_MEMORY, NO_QUEUE, NOC1, NOC3, NOC3_THEN_NOC1};
 
 // A queue of a bench: its number, and the tile whose queue it is (0 for memory's).
-#[derive(Drop)]
+#[derive(Clone, Copy)]
 pub struct BenchQueue {
     pub queue: u64,
     pub tile: u64,

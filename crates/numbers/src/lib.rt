@@ -1,6 +1,8 @@
 // The paper's numbers by name, and our numbers of its queues, below all other crates. specs/ has the same names, with a hyphen for the
 // underscore, for definitions and contracts.
 // In reading order: types, states, ports, queues, kinds, refusals, tags, limits.
+#![tactic(auto)]
+
 pub mod kinds;
 pub mod limits;
 pub mod ports;

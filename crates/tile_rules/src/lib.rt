@@ -2,6 +2,8 @@
 // - moves (specs/Moves): the numbers by which a tile decides, and its moves
 // - accesses: load, store, evict; deliveries: what stands at the front of its NoC2
 // - specs/Steps: what a move makes of the tile's block; proofs/Rules: that this is document 01's rule
+#![tactic(auto)]
+
 ghost use Rattle.std.specs.Prelude.{◌≡◌};
 ghost use Rattle.tile_rules.specs.Moves.{step};
 

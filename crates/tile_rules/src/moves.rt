@@ -12,7 +12,7 @@ use numbers::types::NO_MESSAGE;
 
 // The numbers by which a tile decides: its state; what it waits for, with the word and the value to store; the type of the second message on
 // NoC1 (none: there is room); type and state of the front message on NoC2; the type of the second message on NoC3.
-#[derive(Drop)]
+#[derive(Clone, Copy)]
 pub struct TileNumbers {
     pub state: u64,
     pub waits: u64,
@@ -25,7 +25,7 @@ pub struct TileNumbers {
 }
 
 // What a step of a tile comes to, but for refusal 9.
-#[derive(Drop)]
+#[derive(Clone, Copy)]
 pub enum TileMove {
     // refused with this number
     Refuse(u64),
@@ -67,7 +67,7 @@ pub enum TileMove {
 }
 
 // A step as the definitions tell it: the answer, and the block after it.
-#[derive(Drop)]
+#[derive(Clone, Copy)]
 pub struct TileStep {
     pub refusal: u64,
     pub kind: u64,
@@ -77,7 +77,7 @@ pub struct TileStep {
 }
 
 // The answer of a step alone.
-#[derive(Drop)]
+#[derive(Clone, Copy)]
 pub struct StepAnswer {
     pub refusal: u64,
     pub kind: u64,

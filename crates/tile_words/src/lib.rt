@@ -3,6 +3,8 @@
 // - fields: the numbers and the line of a tile's block, read and written where they stand
 // - changes: what a move changes in place; moves: a move made
 // - specs/InPlace, specs/Answers: what these promise, as devices of the proofs
+#![tactic(auto)]
+
 ghost use Rattle.std.specs.Prelude.{◌≡◌, ◌+◌, ◌≤◌, length};
 ghost use Rattle.layout.specs.Places.{tile_size};
 ghost use Rattle.tile_rules.specs.Steps.{tile_step_on};

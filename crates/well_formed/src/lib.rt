@@ -3,6 +3,8 @@
 // - fields, phases (specs/Fields): single numbers, and those that a type or a phase asks for
 // - rows (specs/Rows), messages, queues: a row, a message, a queue; tile_block, home_block (specs/Blocks): a block
 // The specs here are devices of the proofs: the promise is well_formed of crate calls.
+#![tactic(auto)]
+
 ghost use Rattle.std.specs.Prelude.{◌≡◌, true, ◌≤◌, length};
 ghost use Rattle.numbers.specs.Limits.{most_tiles};
 ghost use Rattle.layout.specs.Places.{home_size};

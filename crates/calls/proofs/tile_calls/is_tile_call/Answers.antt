@@ -1,0 +1,17 @@
+use borrow.Author.Tests.{ne_eqb}
+use Rattle.calls.proofs.tile_calls.is_tile_call.Goals as goal
+
+pub returns-in-16 : goal.returns-in-16
+returns-in-16 c = simp c.in-16.is
+
+pub returns-in-17 : goal.returns-in-17
+returns-in-17 c = simp c.in-17.is
+
+pub returns-in-18 : goal.returns-in-18
+returns-in-18 c = simp c.in-18.is
+
+pub returns-in-20 : goal.returns-in-20
+returns-in-20 c = simp c.in-20.is
+
+pub returns-in_default : goal.returns-in_default
+returns-in_default c = simp (ne_eqb _ _ c.in_default.in_default-own.rest.1, ne_eqb _ _ c.in_default.in_default-own.rest.0.1, ne_eqb _ _ c.in_default.in_default-own.rest.0.0.1, ne_eqb _ _ c.in_default.in_default-own.rest.0.0.0.1)

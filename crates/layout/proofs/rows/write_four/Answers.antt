@@ -1,0 +1,16 @@
+use Rattle.layout.proofs.Over.{four_stores}
+use lib.ListN.{length-set}
+use native.Mathlib.Omega.{arith}
+use Rattle.layout.proofs.rows.write_four.Goals as goal
+
+pub bounds-words-at-2 : goal.bounds-words-at-2
+bounds-words-at-2 c = simp length-set (omega arith)
+
+pub bounds-words-at-3 : goal.bounds-words-at-3
+bounds-words-at-3 c = simp length-set (omega arith)
+
+pub bounds-words-at-4 : goal.bounds-words-at-4
+bounds-words-at-4 c = simp length-set (omega arith)
+
+pub returns : goal.returns
+returns c = four_stores _ _ _ _ _ _ c.requires
