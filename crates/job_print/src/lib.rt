@@ -1,7 +1,7 @@
 // Prints a job's listing, or only the line of its refusal (01, 'Jobs'), on a writer, piece by piece, as jobs puts it into a buffer.
 // print does so with lent words and a lent buffer of any size, print_job with those of a program, which are enough for every job
 // (specs/Sizes). What is written no contract can say; that every piece was made, in turn, the words after them say. Where a write fails,
-// nothing more is written, but the job is run to its end all the same, so what the words hold does not hang on the writer.
+// nothing more is written, but the job is run to its end all the same, so the words do not depend on the writer.
 #![tactic(auto)]
 
 ghost use Rattle.std.specs.Prelude.{◌≡◌, ◌≤◌, length, take};
