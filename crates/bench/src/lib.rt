@@ -1,5 +1,5 @@
 // A bench in lent words: start, and the nine calls of document 01 ('The bench'). Each promises its answer and the words after it, for every
-// input, by crate calls' answerTo and afterCall.
+// input, by crate calls' answer_to and after_call.
 // - starting: start; tile: the calls at a tile; home: the calls at the home
 // - specs/Serves: a device of the proofs
 #![tactic(auto)]

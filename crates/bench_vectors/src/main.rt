@@ -10,8 +10,9 @@ ghost use Rattle.std.specs.Prelude.{◌≡◌, length};
 ghost use Rattle.bench_vectors.specs.Sizes.{input_bytes};
 
 use calls::Answer;
-use libc::{STDIN_FILENO, STDOUT_FILENO};
 use program_io::{number_at, print_decimal, print_named, print_text};
+use std::io;
+use std::io::{BufWriter, Write};
 
 // The sizes of the input, of a line of numbers, and of the lent memory, which is more than a bench of 64 tiles needs.
 const INPUT_BYTES: usize = 393216;
@@ -54,52 +55,54 @@ const YES: u64 = 1;
 
 const NO: u64 = 0;
 
-fn changed(place: usize, word: u64) {
-    print_decimal(place as u64);
-    print_text(b"=");
-    io::print_decimal(STDOUT_FILENO, word);
+fn changed<W: Write>(out: &mut W, place: usize, word: u64) -> io::Result<()> {
+    write!(out, " {place}={word}")
 }
 
 // The word at place i, if it changed; `before` then has it too.
-fn compare_one(before: &mut [u64], words: &[u64], i: usize) {
+fn compare_one<W: Write>(
+    out: &mut W,
+    before: &mut [u64],
+    words: &[u64],
+    i: usize,
+) -> io::Result<()> {
     if i < before.len() {
         if i < words.len() {
             let was = before[i];
             let is = words[i];
             if was != is {
-                changed(i, is);
                 before[i] = is;
+                changed(out, i, is)?;
             }
         }
     }
+    Ok(())
 }
 
-fn compare(before: &mut [u64], words: &[u64]) {
-    print_text(b" words");
-    let mut i = 0;
-    while i < words.len() {
-        compare_one(before, words, i);
-        i += 1;
+fn compare<W: Write>(out: &mut W, before: &mut [u64], words: &[u64]) -> io::Result<()> {
+    print_text(out, b" words")?;
+    for i in 0..words.len() {
+        compare_one(out, before, words, i)?;
     }
-    print_text(b"\n");
+    print_text(out, b"\n")
 }
 
-fn formed(words: &[u64]) {
+fn formed<W: Write>(out: &mut W, words: &[u64]) -> io::Result<()> {
     let ok = well_formed::well_formed(words);
-    print_text(b" formed");
+    print_text(out, b" formed")?;
     if ok {
-        print_decimal(YES);
+        print_decimal(out, YES)
     } else {
-        print_decimal(NO);
+        print_decimal(out, NO)
     }
 }
 
-fn show(answer: Answer) {
-    print_named(b" refusal", answer.refusal);
-    print_named(b" kind", answer.kind);
-    print_named(b" value", answer.value);
-    print_named(b" sent", answer.sent);
-    print_named(b" tiles", answer.tiles);
+fn show<W: Write>(out: &mut W, answer: Answer) -> io::Result<()> {
+    print_named(out, b" refusal", answer.refusal)?;
+    print_named(out, b" kind", answer.kind)?;
+    print_named(out, b" value", answer.value)?;
+    print_named(out, b" sent", answer.sent)?;
+    print_named(out, b" tiles", answer.tiles)
 }
 
 fn call(words: &mut [u64], tag: u64, tile: u64, word: u64, value: u64) -> Answer {
@@ -110,8 +113,8 @@ fn call(words: &mut [u64], tag: u64, tile: u64, word: u64, value: u64) -> Answer
     }
 }
 
-fn call_on(words: &mut [u64], numbers: &[u64]) {
-    formed(words);
+fn call_on<W: Write>(out: &mut W, words: &mut [u64], numbers: &[u64]) -> io::Result<()> {
+    formed(out, words)?;
     let answer = call(
         words,
         number_at(numbers, TAG_AT),
@@ -119,11 +122,11 @@ fn call_on(words: &mut [u64], numbers: &[u64]) {
         number_at(numbers, WORD_AT),
         number_at(numbers, VALUE_AT),
     );
-    show(answer);
+    show(out, answer)
 }
 
-fn start_on(words: &mut [u64], numbers: &[u64]) {
-    formed(words);
+fn start_on<W: Write>(out: &mut W, words: &mut [u64], numbers: &[u64]) -> io::Result<()> {
+    formed(out, words)?;
     let memory = [
         number_at(numbers, MEMORY_AT),
         number_at(numbers, MEMORY_AT + 1),
@@ -135,20 +138,26 @@ fn start_on(words: &mut [u64], numbers: &[u64]) {
         number_at(numbers, MEMORY_AT + 7),
     ];
     let answer = bench::start(words, number_at(numbers, TILE_COUNT_AT), memory);
-    show(answer);
+    show(out, answer)
 }
 
-fn one_case(command: u8, numbers: &[u64], words: &mut [u64]) {
-    print_text(b"case");
-    print_decimal(number_at(numbers, CASE_AT));
+fn one_case<W: Write>(
+    out: &mut W,
+    command: u8,
+    numbers: &[u64],
+    words: &mut [u64],
+) -> io::Result<()> {
+    print_text(out, b"case")?;
+    print_decimal(out, number_at(numbers, CASE_AT))?;
     let room = number_at(numbers, ROOM_AT) as usize;
     if room <= words.len() {
         if command == CALL {
-            call_on(&mut words[..room], numbers);
+            call_on(out, &mut words[..room], numbers)?;
         } else {
-            start_on(&mut words[..room], numbers);
+            start_on(out, &mut words[..room], numbers)?;
         }
     }
+    Ok(())
 }
 
 fn put(words: &mut [u64], place: usize, word: u64) {
@@ -168,23 +177,37 @@ fn put_all(numbers: &[u64], words: &mut [u64], before: &mut [u64]) {
     }
 }
 
-fn run(command: u8, numbers: &[u64], words: &mut [u64], before: &mut [u64]) {
+fn run<W: Write>(
+    out: &mut W,
+    command: u8,
+    numbers: &[u64],
+    words: &mut [u64],
+    before: &mut [u64],
+) -> io::Result<()> {
     if command == PUT {
         put_all(numbers, words, before);
     } else if command == CALL || command == START {
-        one_case(command, numbers, words);
-        compare(before, words);
+        one_case(out, command, numbers, words)?;
+        compare(out, before, words)?;
     }
+    Ok(())
 }
 
-fn cases(input: &[u8], numbers: &mut [u64], words: &mut [u64], before: &mut [u64]) {
+fn cases<W: Write>(
+    out: &mut W,
+    input: &[u8],
+    numbers: &mut [u64],
+    words: &mut [u64],
+    before: &mut [u64],
+) -> io::Result<()> {
     let mut from = 0;
     while from < input.len() {
         let line = program_io::case_line_at(input, from, DECIMAL, numbers);
         let count = line.count;
-        run(line.command, &numbers[..count], words, before);
+        run(out, line.command, &numbers[..count], words, before)?;
         from = line.next;
     }
+    Ok(())
 }
 
 fn input_buffer() -> [u8; INPUT_BYTES]
@@ -193,11 +216,13 @@ fn input_buffer() -> [u8; INPUT_BYTES]
     [0; INPUT_BYTES]
 }
 
-fn main() {
+fn main(rt: HostRuntime) -> io::Result<()> {
     let mut input = input_buffer();
     let mut numbers = [0u64; CASE_NUMBERS];
     let mut words = [0u64; LENT_WORDS];
     let mut before = [0u64; LENT_WORDS];
-    let n = io::read_full(STDIN_FILENO, &mut input);
-    cases(&input[..n], &mut numbers, &mut words, &mut before);
+    let n = program_io::read_full(&mut rt.stdin(), &mut input)?;
+    let mut out = BufWriter::new(rt.alloc(), rt.stdout())?;
+    cases(&mut out, &input[..n], &mut numbers, &mut words, &mut before)?;
+    out.flush()
 }

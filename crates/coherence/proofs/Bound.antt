@@ -8,7 +8,7 @@ use mathlib.Core.Option.{Option, some, none}
 use native.Mathlib.Nat.{add-mul, mul-add, one-mul, suc-mul}
 use native.Mathlib.Omega.{arith}
 use lib.ListN.{length}
-use Rattle.protocol.specs.Parts.{Words, Access, Cache, Waiting, Request, Forward, Reply, Tile, uncached, shared_by, owned_by, absent, present, Cause, request, eviction, Clearing, clear_for, clear_for_eviction, Home, idle, awaiting_load, awaiting_owner, awaiting_acks, awaiting_store, Bench, Task, task, Write, storing}
+use Rattle.protocol.specs.Parts.{Words, Access, Cache, Waiting, Request, Forward, Reply, Tile, uncached, shared_by, owned_by, absent, present, Cause, request, eviction, Clearing, clear_for, clear_for_eviction, Home, idle, awaiting_load, awaiting_owner, awaiting_acks, awaiting_store, Bench, task}
 use Rattle.protocol.specs.Bench.{tile_at}
 use Rattle.coherence.proofs.Weight.{queue_weight, request_weight, forward_weight, reply_weight, out_weight, back_weight, tile_weight, tiles_weight, cause_weight, clearing_weight, home_weight, measure}
 use Rattle.coherence.proofs.Invariant.{Relation, stranger, sharer, owner, join, Wants, resting, load_queued, store_queued, load_current, store_current, shared_granted, exclusive_granted, modified_granted, not_asked, ask_load, ask_store, ask_inv, Table, stranger_plain, stranger_in, sharer_plain, sharer_replied, owner_plain, owner_replied, owner_shared, owner_out, owner_out_replied, owner_in, owner_in_replied, TileOk, ok, Sees, sees_absent, sees_uncached, sees_sharer, sees_outsider, sees_owner, sees_unowning, loads, loads_not, asked_owner, requester, bystander, owing, storer, cleared_out, sees_leaving, in_mask, off_mask, absent_ok, uncached_ok, shared_ok, owned_ok, idle_ok, load_out, load_back, owner_ok, acks_ok, store_out, store_back, Knowledge, At, at, All, Inv, inv}

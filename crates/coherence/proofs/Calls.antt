@@ -13,9 +13,9 @@ use lib.Seq.{get_or-set_same, set-set}
 use borrow.Author.Tests.{eqb-true, eqb-false, ne_eqb, ltb-true}
 use Rattle.masks.specs.Mask.{has, add, del}
 use Rattle.masks.proofs.MaskLaws.{has_add, has_add_other, has_del, has_del_other, has_none, add_lt, del_lt}
-use Rattle.protocol.specs.Parts.{Words, Queue, empty, one, Access, reading, writing, Waiting, Request, Forward, Reply, ToMemory, FromMemory, load_mem_ack, on_noc1, on_noc3, Tile, uncached, shared_by, owned_by, Line, absent, present, Cause, request, eviction, Clearing, clear_for, clear_for_eviction, Home, idle, awaiting_load, awaiting_owner, awaiting_acks, awaiting_store, Bench, bench_of, Call, load, store, evict, taking, to_tile, from_tile, memory_step, memory_ack, home_eviction, Result, Task, task, Write, storing}
+use Rattle.protocol.specs.Parts.{Words, Queue, empty, one, Access, reading, writing, Waiting, Request, Forward, Reply, ToMemory, FromMemory, load_mem_ack, on_noc1, on_noc3, Tile, uncached, shared_by, owned_by, Line, absent, present, Cause, request, eviction, Clearing, clear_for, clear_for_eviction, Home, idle, awaiting_load, awaiting_owner, awaiting_acks, awaiting_store, Bench, bench_of, Call, load, store, evict, taking, to_tile, from_tile, memory_step, memory_ack, home_eviction, Result, task, Write, storing}
 use Rattle.protocol.specs.Tile.{load_at, store_at, evict_at, deliver_to}
-use Rattle.protocol.specs.Home.{Move, move, grant_shared, grant, grant_message, ask_owner, invalidate, leave, serve, write_back, ack_words, ack_dirty, load_ack_s, load_ack_i, store_ack, cleared, inv_ack, acknowledged, evict_line}
+use Rattle.protocol.specs.Home.{Move, move, grant_shared, grant, ask_owner, invalidate, leave, serve, write_back, ack_words, ack_dirty, load_ack_s, load_ack_i, store_ack, cleared, inv_ack, acknowledged, evict_line}
 use Rattle.protocol.specs.Bench.{fresh_tile, tile_at, push, front, rest, on_tile1, on_tile3, send_one, send_to, send, outcome, posted, kind_of, settle, at_tile, at_word, eligible, arbitrate, pop_noc1, served, take_front, take_chosen, taking_on, noc3, pop_noc3, written_back, fitted, accept_reply, from_tile_on, memory_serves, memory_step_on, accept_ack, memory_ack_on, home_eviction_on, step}
 use Rattle.protocol.specs.Calls.{role_of}
 use Rattle.protocol.specs.Answers.{has_kind}
@@ -75,6 +75,7 @@ beside_owner ne sees_owner (sees_unowning n) = is_stranger
 beside_owner ne (asked_owner a) (asked_owner b) = absurd (ne refl)
 beside_owner ne (asked_owner a) (requester n) = is_stranger
 beside_owner ne (asked_owner a) (bystander n b) = is_stranger
+beside_owner {u = u} {hs = hs} {rel = rel} ne (storer {t = t} {m = m} {owed = owed} {b = b} {d = d} {ws = ws} _ x19) _ = elim x19 [ ]
 
 wordless : {ws us : Words} {p : Waiting} {rel : Relation} {cur : Option Access} {ask : Option Forward} {mark : Bool} {x : Tile} → IsStranger rel → TileOk ws p rel cur ask mark x → TileOk us p rel cur ask mark x
 wordless is_stranger (ok stranger_plain e) = ok stranger_plain e
@@ -91,6 +92,7 @@ home_kept : {n t : ℕ} {h : Home} {mem ws us : Words} {out : Queue ToMemory} {b
 home_kept unchanged s x = x
 home_kept rewritten sees_owner (idle_ok (owned_ok cl lo)) = idle_ok (owned_ok cl lo)
 home_kept rewritten (asked_owner a) (owner_ok cl lo c) = owner_ok cl lo c
+home_kept {n = n} {t = t} {mem = mem} {us = us} {out = out} {back = back} (rewritten {hs = hs}) (storer {m = m} {owed = owed} {b = b} {d = d} {ws = ws} _ x23) x = elim x23 [ ]
 
 -- what the rule of the call c at tile t has to keep
 abbrev Keeps : Words → (ℕ → Waiting) → Call → ℕ → (Tile → Result Tile) → Type 0

@@ -10,7 +10,7 @@ use lib.Dec.{ltb, eqb}
 use lib.ListN.{length, set, length-set}
 use lib.Seq.{get_or-set_same, get_or-set_other}
 use Rattle.masks.specs.Mask.{add, del, has}
-use Rattle.protocol.specs.Parts.{Words, Queue, empty, one, two, reading, writing, State, shared, exclusive, modified, Cache, invalid, valid, Waiting, nothing, for_load, for_store, Request, load_req, store_req, wb_guard_req, Forward, load_fwd, store_fwd, inv_fwd, data_ack, Reply, wb_req, load_fwd_ack_s, load_fwd_ack_i, store_fwd_ack, inv_fwd_ack, ToMemory, load_mem, store_mem, FromMemory, load_mem_ack, store_mem_ack, Message, from_memory, Tile, tile_of, absent, present, Home, idle, awaiting_load, awaiting_owner, awaiting_acks, awaiting_store, Bench, bench_of, Call, load, store, evict, taking, to_tile, from_tile, memory_step, memory_ack, home_eviction, Result, refused, accepted, Task, task, Write, storing}
+use Rattle.protocol.specs.Parts.{Words, Queue, empty, one, two, reading, writing, State, shared, exclusive, modified, Cache, invalid, valid, Waiting, nothing, for_load, for_store, Request, load_req, store_req, wb_guard_req, Forward, load_fwd, store_fwd, inv_fwd, data_ack, Reply, wb_req, load_fwd_ack_s, load_fwd_ack_i, store_fwd_ack, inv_fwd_ack, ToMemory, load_mem, store_mem, FromMemory, load_mem_ack, store_mem_ack, Message, from_memory, Tile, tile_of, absent, present, Home, idle, awaiting_load, awaiting_owner, awaiting_acks, awaiting_store, Bench, bench_of, Call, load, store, evict, taking, to_tile, from_tile, memory_step, memory_ack, home_eviction, Result, refused, accepted, task, storing}
 use Rattle.protocol.specs.Tile.{load_at, store_at, evict_at, Received, misfit, filled, fill, receive, received, deliver_to}
 use Rattle.protocol.specs.Home.{Move, move, serve, write_back, load_ack_s, load_ack_i, store_ack, inv_ack, acknowledged, evict_line}
 use Rattle.protocol.specs.Bench.{fresh_tile, tile_at, front, rest, noc1, noc3, pop_noc1, pop_noc3, settle, at_tile, at_word, posted, kind_of, arbitrate, served, take_front, take_chosen, taking_on, written_back, fitted, accept_reply, from_tile_on, memory_serves, memory_step_on, accept_ack, memory_ack_on, home_eviction_on, step}

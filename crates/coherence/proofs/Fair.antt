@@ -11,7 +11,7 @@ use borrow.Author.Tests.{lt-ltb, le-ltb, eqb-false}
 use lib.Dec.{ltb, eqb}
 use lib.ListN.{length, set, length-replicate}
 use Rattle.masks.specs.Mask.{has}
-use Rattle.protocol.specs.Parts.{Words, empty, one, two, reading, writing, Request, load_req, store_req, wb_guard_req, Tile, tile_of, idle, awaiting_load, awaiting_owner, awaiting_acks, awaiting_store, Bench, bench_of, Call, load, store, evict, taking, to_tile, from_tile, memory_step, memory_ack, home_eviction, Task, task, Write, storing}
+use Rattle.protocol.specs.Parts.{Words, empty, one, two, reading, writing, Request, load_req, store_req, wb_guard_req, Tile, tile_of, idle, awaiting_load, awaiting_owner, awaiting_acks, awaiting_store, Bench, bench_of, Call, load, store, evict, taking, to_tile, from_tile, memory_step, memory_ack, home_eviction, task, storing}
 use Rattle.protocol.specs.Home.{Move, move, range, serve}
 use Rattle.protocol.specs.Bench.{fresh_tile, fresh, tile_at, front, noc1, pop_noc1, kind_of, circle, first_of, eligible, arbitrate, served, take_front, take_chosen, taking_on, step}
 use Rattle.protocol.specs.declared.Answer.{Answer}

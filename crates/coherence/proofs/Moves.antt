@@ -11,8 +11,8 @@ use lib.ListN.{length, set, length-set}
 use lib.Seq.{get_or-set_same, get_or-set_other}
 use Rattle.masks.specs.Mask.{has, add}
 use Rattle.masks.proofs.MaskLaws.{has_add, has_add_other, add_lt}
-use Rattle.protocol.specs.Parts.{Words, Queue, empty, Access, reading, writing, Waiting, Forward, inv_fwd, ToMemory, FromMemory, Message, on_noc2, Tile, shared_by, owned_by, Line, absent, present, Cause, request, eviction, Clearing, clear_for, Home, idle, awaiting_owner, awaiting_acks, awaiting_store, Bench, bench_of, Result, Task, task, Write, storing}
-use Rattle.protocol.specs.Home.{Move, move, range, among, members, grant_shared, grant_message, granted_line, grant, asked_for, ask_owner, invalidate_to, invalidate, leave}
+use Rattle.protocol.specs.Parts.{Words, Queue, empty, Access, reading, writing, Waiting, Forward, inv_fwd, ToMemory, FromMemory, Message, on_noc2, Tile, shared_by, owned_by, Line, absent, present, Cause, request, eviction, Clearing, clear_for, Home, idle, awaiting_owner, awaiting_acks, awaiting_store, Bench, bench_of, Result, task, Write, storing}
+use Rattle.protocol.specs.Home.{Move, move, range, among, members, grant_shared, granted_line, grant, asked_for, ask_owner, invalidate_to, invalidate, leave}
 use Rattle.protocol.specs.Bench.{fresh_tile, tile_at, push, send_one, send_to, send, outcome, posted, kind_of}
 use Rattle.protocol.proofs.Tests.{clash, by_test, at_or_not}
 use Rattle.coherence.proofs.Invariant.{Relation, stranger, sharer, owner, TileOk, Askable, ask_load, ask_store, ask_inv, AsksFor, asks_load, asks_store, asks_eviction, Apart, ApartFrom, Sees, sees_absent, sees_sharer, sees_outsider, sees_owner, sees_unowning, asked_owner, requester, bystander, owing, storer, cleared_out, sees_leaving, InMask, Clean, clean, absent_ok, shared_ok, owned_ok, CauseOk, ClearingOk, Inside, idle_ok, owner_ok, acks_ok, store_out, Knowledge, At, at, All, Inv, inv, Plain, plain_0, plain_3, Fine, fine}

@@ -70,6 +70,17 @@ named_by {t} hok sees_owner k = eqb_same t
 named_by {t} hok (asked_owner a) k = eqb_same t
 named_by {t} (acks_ok cl lo ne sub c) (owing e) k = sub t e
 named_by hok (storer e (in_mask i)) k = i
+named_by {n = n} {t = t} {mem = mem} {ws = ws} {out = out} {back = back} hok Rattle.coherence.proofs.Invariant.sees_absent k = elim k [ ]
+named_by {n = n} {t = t} {mem = mem} {ws = ws} {out = out} {back = back} hok (Rattle.coherence.proofs.Invariant.sees_uncached {d = d}) k = elim k [ ]
+named_by {n = n} {t = t} {mem = mem} {ws = ws} {out = out} {back = back} hok (Rattle.coherence.proofs.Invariant.sees_outsider {m = m} {d = d} _) k = elim k [ ]
+named_by {n = n} {t = t} {mem = mem} {ws = ws} {out = out} {back = back} hok (Rattle.coherence.proofs.Invariant.sees_unowning {o = o} {d = d} _) k = elim k [ ]
+named_by {n = n} {t = t} {mem = mem} {ws = ws} {out = out} {back = back} hok (Rattle.coherence.proofs.Invariant.loads {a = a} {l = l}) k = elim k [ ]
+named_by {n = n} {t = t} {mem = mem} {ws = ws} {out = out} {back = back} hok (Rattle.coherence.proofs.Invariant.loads_not {r = r} {a = a} {l = l} _) k = elim k [ ]
+named_by {n = n} {t = t} {mem = mem} {ws = ws} {out = out} {back = back} hok (Rattle.coherence.proofs.Invariant.requester {o = o} {d = d} {a = a} _) k = elim k [ ]
+named_by {n = n} {t = t} {mem = mem} {ws = ws} {out = out} {back = back} hok (Rattle.coherence.proofs.Invariant.bystander {o = o} {d = d} {c = c} _ _) k = elim k [ ]
+named_by {n = n} {t = t} {mem = mem} {ws = ws} {out = out} {back = back} hok (storer {m = m} {owed = owed} {b = b} {d = d} e Rattle.coherence.proofs.Invariant.off_mask) k = elim k [ ]
+named_by {n = n} {t = t} {mem = mem} {ws = ws} {out = out} {back = back} hok (Rattle.coherence.proofs.Invariant.cleared_out {m = m} {owed = owed} {d = d} {c = c} _ _) k = elim k [ ]
+named_by {n = n} {t = t} {mem = mem} {ws = ws} {out = out} {back = back} hok (Rattle.coherence.proofs.Invariant.sees_leaving {l = l}) k = elim k [ ]
 
 -- beside a tile that may write no other holds the line
 beside_owning : {h : Home} {t u : ℕ} {rel rel' : Relation} {cur cur' : Option Access} {ask ask' : Option Forward} → Writer rel → (t ≡ u → ⊥) → Sees h t rel cur ask → Sees h u rel' cur' ask' → IsStranger rel'

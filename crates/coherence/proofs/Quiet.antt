@@ -11,7 +11,7 @@ use lib.Pow.{pow_pos}
 use borrow.Author.Tests.{lt-ltb, not-true, not-false}
 use Rattle.masks.specs.Mask.{has}
 use Rattle.masks.proofs.MaskLaws.{has_none, ext}
-use Rattle.protocol.specs.Parts.{Words, Queue, empty, one, two, Access, Cache, Waiting, Request, load_req, store_req, wb_guard_req, Forward, Reply, wb_req, load_fwd_ack_s, load_fwd_ack_i, store_fwd_ack, inv_fwd_ack, ToMemory, load_mem, store_mem, FromMemory, Message, Tile, tile_of, Line, Home, idle, awaiting_owner, awaiting_acks, Cause, Clearing, Bench, bench_of, taking, to_tile, from_tile, memory_step, memory_ack, Result, refused, accepted, Task, task, Write, storing}
+use Rattle.protocol.specs.Parts.{Words, Queue, empty, one, two, Access, Cache, Waiting, Request, load_req, store_req, wb_guard_req, Forward, Reply, wb_req, load_fwd_ack_s, load_fwd_ack_i, store_fwd_ack, inv_fwd_ack, ToMemory, load_mem, store_mem, FromMemory, Message, Tile, tile_of, Line, Home, idle, awaiting_owner, awaiting_acks, Cause, Clearing, Bench, bench_of, taking, to_tile, from_tile, memory_step, memory_ack, Result, refused, accepted}
 use Rattle.protocol.specs.Tile.{Received, misfit, filled, replied, received, receive, deliver_to}
 use Rattle.protocol.specs.Home.{Move, move, range, write_back, load_ack_s, load_ack_i, store_ack, inv_ack, acknowledged}
 use Rattle.protocol.specs.Bench.{fresh_tile, tile_at, front, rest, send, outcome, posted, kind_of, settle, at_tile, circle, first_of, eligible, arbitrate, noc1, pop_noc1, served, take_front, take_chosen, taking_on, noc3, pop_noc3, written_back, fitted, accept_reply, from_tile_on, memory_serves, memory_step_on, accept_ack, memory_ack_on, step}

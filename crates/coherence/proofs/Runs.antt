@@ -1,12 +1,12 @@
 -- The invariant of every bench that a list of calls leaves, of the words last written and of what each tile waits for by the history.
 use Prim.Native.Nat.{ℕ}
 use mathlib.Core.Path.{◌≡◌, refl, sym, subst, ◌∙◌}
-use mathlib.Core.Bool.{Bool, true, false, ◌&&◌, and-false}
+use mathlib.Core.Bool.{false, and-false}
 use mathlib.Core.List.{List, [], ◌∷◌}
 use lib.Dec.{eqb}
 use lib.ListN.{length, get_or, length-replicate, get_or-replicate}
 use Rattle.masks.proofs.MaskLaws.{has_none}
-use Rattle.protocol.specs.Parts.{Words, Waiting, nothing, for_load, for_store, Bench, Call, load, store, evict, taking, to_tile, from_tile, memory_step, memory_ack, home_eviction, Result, refused, accepted, idle, absent}
+use Rattle.protocol.specs.Parts.{Words, Waiting, nothing, for_load, for_store, Bench, Call, Result, refused, accepted, idle, absent}
 use Rattle.protocol.specs.Bench.{fresh_tile, fresh, step}
 use Rattle.protocol.specs.Answers.{acceptance, answer_of, has_kind}
 use Rattle.protocol.specs.Calls.{Role, accesses, delivers_to, takes, neither, role_of}
@@ -83,7 +83,7 @@ kept_gives ws q n c (accepted k v b ms) (fine p) = said_gives _ q (role_of c) k 
 since_inv : {ws : Words} {q : ℕ → Waiting} {n : ℕ} {b : Bench} (cs : List Call) → Inv ws q n b → Inv (written_since q ws (history rules cs b)) (waits_for_since q (history rules cs b)) n (runs rules cs b)
 unfolding runs after history written_since waits_for_since
 since_inv [] i = i
-since_inv {b} (c ∷ cs) i = since_inv cs (kept_inv c (step c b) i (step_fine c i))
+since_inv {ws = ws} {q = q} {n = n} {b = b} (c ∷ cs) i = since_inv {ws = written_after (event c (answer_of (step c b))) q ws} cs (kept_inv c (step c b) i (step_fine c i))
 
 -- the words last written after a list of calls on a fresh bench
 abbrev pub words_last : ℕ → Words → List Call → Words

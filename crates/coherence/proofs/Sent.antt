@@ -7,7 +7,7 @@ use mathlib.Core.List.{List, [], ◌∷◌}
 use mathlib.Core.Option.{Option, some, none, map}
 use native.Mathlib.Omega.{arith}
 use lib.ListN.{length, set, length-set}
-use Rattle.protocol.specs.Parts.{Words, Queue, empty, one, two, Waiting, nothing, for_load, for_store, Cache, Request, Forward, Reply, ToMemory, FromMemory, Message, on_noc1, on_noc2, on_noc3, to_memory, from_memory, Tile, tile_of, Home, Bench, bench_of, Result, refused, accepted}
+use Rattle.protocol.specs.Parts.{Words, Queue, empty, one, two, Request, Forward, Reply, ToMemory, FromMemory, Message, on_noc1, on_noc2, on_noc3, to_memory, from_memory, Tile, tile_of, Home, Bench, bench_of, Result, refused, accepted}
 use Rattle.protocol.specs.Bench.{fresh_tile, tile_at, push, front, noc1, on_tile1, on_tile2, on_tile3, send_one, send_to, send, outcome, posted}
 use Rattle.protocol.specs.Demand3.{waiting_of, tiles_of, is_request}
 use Rattle.coherence.proofs.Weight.{queue_weight, request_weight, forward_weight, reply_weight, out_weight, back_weight, tile_weight, tiles_weight, measure}

@@ -81,10 +81,14 @@ load_kept t w (ok tb (modified_granted k)) = kept_refused refl
 written_E : {ws : Words} {rel : Relation} {cur : Option Access} {ask : Option Forward} {mark : Bool} {us : Words} {g : Option Request} {w a : Option Reply} {f : Option Forward} (i v : ℕ)
     → Table ws rel cur ask mark (valid exclusive us) none g w f a → Table (set ws i v) rel cur ask mark (valid modified (set us i v)) none g w f a × Changes ws rel (set ws i v)
 written_E i v (owner_plain k (owns_E e)) = (owner_plain k owns_M, rewritten)
+written_E {ws = ws} {cur = cur} {ask = ask} {us = us} i v (sharer_plain _ x32 _) = elim x32 [ ]
+written_E {ws = ws} {us = us} i v (owner_shared {hs = hs} x29 _) = elim x29 [ ]
 
 written_M : {ws : Words} {rel : Relation} {cur : Option Access} {ask : Option Forward} {mark : Bool} {us : Words} {g : Option Request} {w a : Option Reply} {f : Option Forward} (i v : ℕ)
     → Table ws rel cur ask mark (valid modified us) none g w f a → Table (set ws i v) rel cur ask mark (valid modified (set us i v)) none g w f a × Changes ws rel (set ws i v)
 written_M i v (owner_plain k owns_M) = (owner_plain k owns_M, rewritten)
+written_M {ws = ws} {cur = cur} {ask = ask} {us = us} i v (sharer_plain _ x32 _) = elim x32 [ ]
+written_M {ws = ws} {us = us} i v (owner_shared {hs = hs} x29 _) = elim x29 [ ]
 
 abbrev pub Stored : Words → Waiting → ℕ → ℕ → Relation → Option Access → Option Forward → Bool → ℕ → ℕ → Tile → Type 0
 Stored ws p w x rel cur ask mark kd v y =
@@ -158,6 +162,11 @@ write_back_lem : {ws : Words} {rel : Relation} {cur : Option Access} {ask : Opti
     → Kept t (Evicted ws p rel cur ask mark) (evict_at t (tile_of (valid modified us) p (join g r) (join d f) (join w a)))
 unfolding evict_at on_tile1 on_tile3 push
 write_back_lem t (owner_plain k owns_M) resting = kept_write_back refl refl (ok (owner_out k) resting, plain_3)
+write_back_lem {ws = ws} {cur = cur} {ask = ask} {us = us} {p = p} {r = r} {d = d} t (sharer_plain _ x43 _) _ = elim x43 [ ]
+write_back_lem {ws = ws} {ask = ask} t (owner_plain {hs = hs} k owns_M) (store_queued {w = w} {v = v} {u = u} x34) = elim x34 [ ]
+write_back_lem {ws = ws} {ask = ask} t (owner_plain {hs = hs} k owns_M) (store_current {w = w} {v = v} x35) = elim x35 [ ]
+write_back_lem {ws = ws} {cur = cur} {ask = ask} {us = us} {p = p} {r = r} t (owner_plain {hs = hs} k (sent_M {miss = miss} _ x33)) _ = elim x33 [ ]
+write_back_lem {ws = ws} {us = us} {p = p} {r = r} t (owner_shared {hs = hs} x44 _) _ = elim x44 [ ]
 
 pub evict_kept : {ws : Words} {p : Waiting} {rel : Relation} {cur : Option Access} {ask : Option Forward} {mark : Bool} {x : Tile} (t : ℕ) → TileOk ws p rel cur ask mark x → Kept t (Evicted ws p rel cur ask mark) (evict_at t x)
 unfolding evict_at is_misfit
@@ -224,6 +233,8 @@ to_owner {ws} t ask_store owns_M e = kept_reply refl (replied (ok (owner_replied
 to_owner t ask_store (sent_E h) (exclusive_granted {w}) = kept_silent (answered_load w (ok (owner_plain ask_store (owns_E h)) resting))
 to_owner t ask_store (sent_M h shares_I) (modified_granted {w} {v} k) = kept_silent (answered_store w v (ok (owner_plain ask_store owns_M) resting))
 to_owner t ask_store (sent_M h shares_S) (modified_granted {w} {v} k) = kept_silent (answered_store w v (ok (owner_plain ask_store owns_M) resting))
+to_owner {ws = ws} {hs = hs} t ask_load (owns_E h) (store_queued {w = w} {v = v} {u = u} x11) = elim x11 [ ]
+to_owner {ws = ws} {hs = hs} t ask_load owns_M (store_queued {w = w} {v = v} {u = u} x12) = elim x12 [ ]
 
 pub deliver_kept : {ws : Words} {p : Waiting} {rel : Relation} {cur : Option Access} {ask : Option Forward} {mark : Bool} {x : Tile} (t : ℕ) → TileOk ws p rel cur ask mark x → Delivered ws p t rel cur ask mark x
 unfolding deliver_to received receive is_misfit on_tile3 push

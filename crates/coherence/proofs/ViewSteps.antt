@@ -3,7 +3,7 @@ use Prim.Native.Nat.{ℕ}
 use mathlib.Core.Path.{◌≡◌, refl, sym}
 use mathlib.Core.Bool.{Bool, true, false}
 use mathlib.Core.Option.{Option, some, none}
-use Rattle.protocol.specs.Parts.{Words, Access, reading, writing, shared, exclusive, modified, Cache, invalid, valid, Waiting, Request, load_req, store_req, wb_guard_req, Forward, load_fwd, store_fwd, inv_fwd, data_ack, Reply, wb_req, load_fwd_ack_s, load_fwd_ack_i, store_fwd_ack, inv_fwd_ack, Tile, Task, task, Write, storing}
+use Rattle.protocol.specs.Parts.{Words, Access, reading, writing, shared, exclusive, modified, Cache, invalid, valid, Waiting, Request, load_req, store_req, wb_guard_req, Forward, load_fwd, store_fwd, inv_fwd, data_ack, Reply, wb_req, load_fwd_ack_s, load_fwd_ack_i, store_fwd_ack, inv_fwd_ack, Tile, Write, storing}
 use Rattle.protocol.specs.Home.{grant_message, ack_words}
 use Rattle.protocol.specs.Bench.{push, front, rest, on_tile2, eligible, noc1, pop_noc1, noc3, pop_noc3}
 use Rattle.protocol.proofs.Tests.{false_true}
@@ -81,6 +81,8 @@ pub asking_owner : {ws hs : Words} {p : Waiting} {a : Access} {mark : Bool} {x :
 asking_owner (ok (owner_plain not_asked (owns_I h)) k) = h
 asking_owner (ok (owner_plain not_asked (owns_E h)) k) = h
 asking_owner (ok (owner_plain not_asked owns_M) (store_current k)) = false_true (sym (weak_unowned k))
+asking_owner {ws = ws} {hs = hs} {p = p} {a = a} (ok {r = r} (owner_plain not_asked (sent_E {miss = miss} _)) k) = elim k [ ]
+asking_owner {ws = ws} {hs = hs} {p = p} {a = a} (ok {c = c} {r = r} (owner_plain not_asked (sent_M {miss = miss} _ _)) k) = elim k [ ]
 
 -- a grant of S
 pub data ShareFrom : Relation → Type 0 where

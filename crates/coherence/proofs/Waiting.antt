@@ -1,6 +1,6 @@
 -- Waiting in the history of calls is waiting in the tile.
 use Prim.Native.Nat.{ℕ, suc}
-use mathlib.Core.Path.{◌≡◌, refl, sym, ap, ◌∙◌, subst}
+use mathlib.Core.Path.{◌≡◌, refl, sym, ap, ◌∙◌}
 use mathlib.Core.List.{List, [], ◌∷◌}
 use lib.ListN.{replicate}
 use Rattle.protocol.specs.Parts.{Words, Waiting, nothing, Bench, Call}

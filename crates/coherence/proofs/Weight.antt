@@ -2,7 +2,7 @@
 use Prim.Native.Nat.{ℕ, ◌+◌, ◌*◌}
 use mathlib.Core.List.{List, [], ◌∷◌}
 use lib.ListN.{length}
-use Rattle.protocol.specs.Parts.{Queue, empty, one, two, Request, load_req, store_req, wb_guard_req, Forward, load_fwd, store_fwd, inv_fwd, data_ack, Reply, ToMemory, FromMemory, Tile, tile_of, Cause, request, eviction, Clearing, clear_for, clear_for_eviction, Home, idle, awaiting_load, awaiting_owner, awaiting_acks, awaiting_store, Bench, bench_of, Task, task, Write, storing}
+use Rattle.protocol.specs.Parts.{Queue, empty, one, two, Request, load_req, store_req, wb_guard_req, Forward, load_fwd, store_fwd, inv_fwd, data_ack, Reply, ToMemory, FromMemory, Tile, tile_of, Cause, request, eviction, Clearing, clear_for, clear_for_eviction, Home, idle, awaiting_load, awaiting_owner, awaiting_acks, awaiting_store, Bench, bench_of, task}
 
 -- a queue, by the weight of a message
 unfoldable pub queue_weight : {A : Type 0} → (A → ℕ) → Queue A → ℕ

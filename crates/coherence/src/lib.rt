@@ -3,4 +3,3 @@
 // - Invariant; that each rule keeps it: TileSteps, ViewSteps, Moves, Calls, with Written and Said for what a history says; Runs
 // - what follows: Bound, Quiet, and the theorems: Theorem (demand 3), Order1
 #![tactic(auto)]
-

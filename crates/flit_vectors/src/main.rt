@@ -7,8 +7,9 @@
 #![tactic(auto)]
 
 use flits::{Header, Node};
-use libc::STDOUT_FILENO;
 use program_io::{number_at, print_decimal, print_named, print_text, print_words};
+use std::io;
+use std::io::{BufWriter, Write};
 
 // the numbers of a line `w`: the fields in the order of `Header`, then ROOM, PLACE and the words
 const TO_AT: usize = 2;
@@ -29,54 +30,56 @@ const HEXADECIMAL: u64 = 16;
 
 const MOST_NUMBERS: usize = 64;
 
-fn node(name: &[u8], n: Node) {
-    print_named(name, n.chip);
-    print_decimal(n.x);
-    print_decimal(n.y);
-    print_decimal(n.port);
+const INPUT_BYTES: usize = 65536;
+
+fn node<W: Write>(out: &mut W, name: &[u8], n: Node) -> io::Result<()> {
+    print_named(out, name, n.chip)?;
+    print_decimal(out, n.x)?;
+    print_decimal(out, n.y)?;
+    print_decimal(out, n.port)
 }
 
-fn flit2_fields(h: Header) {
-    print_text(b" address ");
-    io::print_hex(STDOUT_FILENO, h.address, 1);
-    print_named(b" vector", h.vector);
-    print_named(b" icache", h.icache);
-    print_named(b" size", h.size);
+fn flit2_fields<W: Write>(out: &mut W, h: Header) -> io::Result<()> {
+    let address = h.address;
+    write!(out, " address {address:x}")?;
+    print_named(out, b" vector", h.vector)?;
+    print_named(out, b" icache", h.icache)?;
+    print_named(out, b" size", h.size)
 }
 
-fn fields(h: Header) {
-    print_named(b" type", h.opcode);
-    print_named(b" tag", h.tag);
+fn fields<W: Write>(out: &mut W, h: Header) -> io::Result<()> {
+    print_named(out, b" type", h.opcode)?;
+    print_named(out, b" tag", h.tag)?;
     let to = h.to;
-    node(b" to", to);
-    print_named(b" options", h.state);
-    print_decimal(h.miss);
-    print_decimal(h.address54);
-    print_decimal(h.last);
-    flit2_fields(h);
+    node(out, b" to", to)?;
+    print_named(out, b" options", h.state)?;
+    print_decimal(out, h.miss)?;
+    print_decimal(out, h.address54)?;
+    print_decimal(out, h.last)?;
+    flit2_fields(out, h)?;
     let from = h.from;
-    node(b" from", from);
+    node(out, b" from", from)
 }
 
-fn show_read(s: &[u64]) {
+fn show_read<W: Write>(out: &mut W, s: &[u64]) -> io::Result<()> {
     let r = flits::read(s);
-    print_named(b"read", r.refusal);
-    print_named(b" used", r.used as u64);
-    print_named(b" start", r.start as u64);
+    print_named(out, b"read", r.refusal)?;
+    print_named(out, b" used", r.used as u64)?;
+    print_named(out, b" start", r.start as u64)?;
     let h = r.header;
-    fields(h);
-    print_text(b" data");
+    fields(out, h)?;
+    print_text(out, b" data")?;
     let data = flits::data_words(s);
-    print_words(data, data.len());
-    print_text(b"\n");
+    print_words(out, data, data.len())?;
+    print_text(out, b"\n")
 }
 
-fn show_walk(s: &[u64]) {
+fn show_walk<W: Write>(out: &mut W, s: &[u64]) -> io::Result<()> {
     let r = flits::walker::walk(s);
-    print_named(b"walk messages", r.messages as u64);
-    print_named(b" at", r.at as u64);
-    print_named(b" refusal", r.refusal);
-    print_text(b"\n");
+    print_named(out, b"walk messages", r.messages as u64)?;
+    print_named(out, b" at", r.at as u64)?;
+    print_named(out, b" refusal", r.refusal)?;
+    print_text(out, b"\n")
 }
 
 fn node_at(s: &[u64], i: usize) -> Node {
@@ -114,50 +117,62 @@ fn header_at(s: &[u64]) -> Header {
     }
 }
 
-fn write_into(h: Header, data: &[u64], buffer: &mut [u64], place: u64) {
+fn write_into<W: Write>(
+    out: &mut W,
+    h: Header,
+    data: &[u64],
+    buffer: &mut [u64],
+    place: u64,
+) -> io::Result<()> {
     let r = flits::write(h, data, buffer, place as usize);
-    print_named(b"write", r.refusal);
-    print_named(b" flits", r.flits as u64);
-    print_text(b" buffer");
-    print_words(buffer, buffer.len());
-    print_text(b"\n");
+    print_named(out, b"write", r.refusal)?;
+    print_named(out, b" flits", r.flits as u64)?;
+    print_text(out, b" buffer")?;
+    print_words(out, buffer, buffer.len())?;
+    print_text(out, b"\n")
 }
 
-fn show_write(s: &[u64]) {
+fn show_write<W: Write>(out: &mut W, s: &[u64]) -> io::Result<()> {
     let mut buffer = [UNWRITTEN; MOST_ROOM];
     let h = header_at(s);
     let room = number_at(s, ROOM_AT) as usize;
     let place = number_at(s, PLACE_AT);
     if room <= MOST_ROOM {
         if WORDS_AT <= s.len() {
-            write_into(h, &s[WORDS_AT..], &mut buffer[..room], place);
+            write_into(out, h, &s[WORDS_AT..], &mut buffer[..room], place)?;
         }
     }
+    Ok(())
 }
 
-fn run(command: u8, s: &[u64]) {
+fn run<W: Write>(out: &mut W, command: u8, s: &[u64]) -> io::Result<()> {
     if command == b'r' {
-        show_read(s);
+        show_read(out, s)
     } else if command == b'w' {
-        show_write(s);
+        show_write(out, s)
     } else if command == b'k' {
-        show_walk(s);
+        show_walk(out, s)
+    } else {
+        Ok(())
     }
 }
 
-fn cases(input: &[u8], numbers: &mut [u64]) {
+fn cases<W: Write>(out: &mut W, input: &[u8], numbers: &mut [u64]) -> io::Result<()> {
     let mut from = 0;
     while from < input.len() {
         let line = program_io::case_line_at(input, from, HEXADECIMAL, numbers);
         let count = line.count;
-        run(line.command, &numbers[..count]);
+        run(out, line.command, &numbers[..count])?;
         from = line.next;
     }
+    Ok(())
 }
 
-fn main() {
-    let mut input = io::large_buffer();
+fn main(rt: HostRuntime) -> io::Result<()> {
+    let mut input = [0u8; INPUT_BYTES];
     let mut numbers = [0u64; MOST_NUMBERS];
-    let n = io::read_full(0, &mut input);
-    cases(&input[..n], &mut numbers);
+    let n = program_io::read_full(&mut rt.stdin(), &mut input)?;
+    let mut out = BufWriter::new(rt.alloc(), rt.stdout())?;
+    cases(&mut out, &input[..n], &mut numbers)?;
+    out.flush()
 }

@@ -5,6 +5,8 @@ ghost use Rattle.job_format.specs.Bytes.{byte_values};
 
 use job_format::places::HEADER_BYTES;
 use numbers::refusals::ACCEPTED;
+use std::io;
+use std::io::Write;
 
 const BYTE_VALUES: usize = 256;
 
@@ -16,10 +18,10 @@ const LINE_ROOM: usize = 64;
 
 const LINES_ROOM: usize = 4096;
 
-fn refused(number: u64, offset: usize) {
+fn refused<W: Write>(out: &mut W, number: u64, offset: usize) -> io::Result<()> {
     let mut buffer = [0u8; LINE_ROOM];
     let next = listing::refused_line(&mut buffer, 0, number, offset as u64);
-    program_io::print_fitted(&buffer, next);
+    program_io::print_fitted(out, &buffer, next)
 }
 
 fn call(buffer: &mut [u8], next: usize, job: &[u8], at: usize, before: u64) -> usize {
@@ -51,7 +53,7 @@ fn calls(buffer: &mut [u8], start: usize, job: &[u8]) -> usize {
     listing::end_line(buffer, next, count)
 }
 
-fn accepted(job: &[u8]) {
+fn accepted<W: Write>(out: &mut W, job: &[u8]) -> io::Result<()> {
     let mut buffer = [0u8; LINES_ROOM];
     let count = job_format::tile_count(job);
     let address = job_format::line_address(job);
@@ -59,17 +61,17 @@ fn accepted(job: &[u8]) {
     let p = listing::bench_line(&mut buffer, 0, count, address);
     let q = listing::message_line(&mut buffer, p, &words);
     let r = calls(&mut buffer, q, job);
-    program_io::print_fitted(&buffer, r);
+    program_io::print_fitted(out, &buffer, r)
 }
 
-fn one(job: &[u8]) {
+fn one<W: Write>(out: &mut W, job: &[u8]) -> io::Result<()> {
     let c = job_format::check_job(job);
     let number = c.refusal;
     let offset = c.offset;
     if number == ACCEPTED {
-        accepted(job);
+        accepted(out, job)
     } else {
-        refused(number, offset);
+        refused(out, number, offset)
     }
 }
 
@@ -83,25 +85,35 @@ fn byte(input: &[u8], at: usize) -> usize
     }
 }
 
-// The job behind the length at a place; answers the place behind the job.
+// The place behind the job whose length stands at a place.
 fn step(input: &[u8], at: usize) -> usize
     requires { at < length input.now }
     ensures { at < result }
 {
     let high = byte(input, at) * BYTE_VALUES + byte(input, at + 1);
     let count = high * BYTE_VALUES + byte(input, at + 2);
-    let from = at + LENGTH_BYTES;
-    if from <= input.len() {
-        if count <= input.len() - from {
-            one(&input[from..from + count]);
-        }
-    }
-    from + count
+    at + LENGTH_BYTES + count
 }
 
-pub fn all(input: &[u8]) {
+// The job behind the length at a place, up to the place behind it. One that is cut off is not looked at.
+fn show<W: Write>(out: &mut W, input: &[u8], at: usize, next: usize) -> io::Result<()>
+    requires { at < length input.now }
+{
+    let from = at + LENGTH_BYTES;
+    if from <= next {
+        if next <= input.len() {
+            one(out, &input[from..next])?;
+        }
+    }
+    Ok(())
+}
+
+pub fn all<W: Write>(out: &mut W, input: &[u8]) -> io::Result<()> {
     let mut at = 0;
     while at < input.len() {
-        at = step(input, at);
+        let next = step(input, at);
+        show(out, input, at, next)?;
+        at = next;
     }
+    Ok(())
 }

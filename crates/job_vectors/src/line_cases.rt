@@ -2,6 +2,8 @@
 use numbers::kinds::{KIND_LOADED, KIND_SENT};
 use numbers::limits::{MOST_JOB_BYTES, MOST_TILES};
 use numbers::refusals::{ACCEPTED, JOB_PLACE, JOB_TOO_LONG, NO_ROOM};
+use std::io;
+use std::io::Write;
 
 // ---- 01's listing
 // a bench of one tile with this line, whose first word is 7
@@ -77,11 +79,11 @@ fn answers(buffer: &mut [u8], at: usize) -> usize {
     listing::end_line(buffer, p, 5)
 }
 
-fn paper() {
+fn paper<W: Write>(out: &mut W) -> io::Result<()> {
     let mut buffer = [0u8; LISTING_ROOM];
     let p = requests(&mut buffer);
     let p = answers(&mut buffer, p);
-    program_io::print_fitted(&buffer, p);
+    program_io::print_fitted(out, &buffer, p)
 }
 
 fn newline(buffer: &mut [u8], at: usize) -> usize {
@@ -94,16 +96,16 @@ fn number(buffer: &mut [u8], at: usize, value: u64) -> usize {
     newline(buffer, p)
 }
 
-fn decimals() {
+fn decimals<W: Write>(out: &mut W) -> io::Result<()> {
     let mut buffer = [0u8; NUMBERS_ROOM];
     let p = number(&mut buffer, 0, 0);
     let p = number(&mut buffer, p, NINE);
     let p = number(&mut buffer, p, TEN);
     let p = number(&mut buffer, p, GREATEST_WORD);
-    program_io::print_fitted(&buffer, p);
+    program_io::print_fitted(out, &buffer, p)
 }
 
-fn hexadecimal() {
+fn hexadecimal<W: Write>(out: &mut W) -> io::Result<()> {
     let mut buffer = [0u8; NUMBERS_ROOM];
     let p = listing::put_hex16(&mut buffer, 0, EVERY_DIGIT);
     let p = newline(&mut buffer, p);
@@ -115,27 +117,27 @@ fn hexadecimal() {
     let p = listing::refused_line(&mut buffer, p, JOB_TOO_LONG, MOST_JOB_BYTES as u64);
     let p = listing::refused_line(&mut buffer, p, JOB_PLACE, 0);
     let p = listing::bench_line(&mut buffer, p, MOST_TILES, LAST_LINE);
-    program_io::print_fitted(&buffer, p);
+    program_io::print_fitted(out, &buffer, p)
 }
 
 // Ten bytes hold 'end 12345' and its newline; 'end 123456' does not fit, and the dots stay.
-fn tight() {
+fn tight<W: Write>(out: &mut W) -> io::Result<()> {
     let mut full = [DOT; TIGHT_ROOM];
     let p = listing::end_line(&mut full, 0, FITS);
-    program_io::print_fitted(&full, p);
+    program_io::print_fitted(out, &full, p)?;
     let mut dots = [DOT; TIGHT_ROOM];
     let p = listing::end_line(&mut dots, 0, DOES_NOT_FIT);
-    program_io::print_fitted(&dots, TIGHT_ROOM);
+    program_io::print_fitted(out, &dots, TIGHT_ROOM)?;
     let q = listing::put_decimal(&mut dots, p, ONE_DIGIT);
-    program_io::print_fitted(&dots, TIGHT_ROOM);
+    program_io::print_fitted(out, &dots, TIGHT_ROOM)?;
     let mut buffer = [0u8; LINE_ROOM];
     let r = listing::call_line(&mut buffer, 0, p as u64, q as u64, 0, 0);
-    program_io::print_fitted(&buffer, r);
+    program_io::print_fitted(out, &buffer, r)
 }
 
-pub fn all() {
-    paper();
-    decimals();
-    hexadecimal();
-    tight();
+pub fn all<W: Write>(out: &mut W) -> io::Result<()> {
+    paper(out)?;
+    decimals(out)?;
+    hexadecimal(out)?;
+    tight(out)
 }

@@ -5,13 +5,14 @@
 mod job_cases;
 mod line_cases;
 
-use libc::STDIN_FILENO;
+use std::io;
 
 const INPUT_BYTES: usize = 262144;
 
-fn main() {
+fn main(rt: HostRuntime) -> io::Result<()> {
     let mut input = [0u8; INPUT_BYTES];
-    let count = io::read_full(STDIN_FILENO, &mut input);
-    job_cases::all(&input[..count]);
-    line_cases::all();
+    let mut out = rt.stdout();
+    let count = program_io::read_full(&mut rt.stdin(), &mut input)?;
+    job_cases::all(&mut out, &input[..count])?;
+    line_cases::all(&mut out)
 }

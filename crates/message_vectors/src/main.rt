@@ -14,6 +14,8 @@ use numbers::types::{
     NO_MESSAGE, STORE_FWD, STORE_FWDACK, STORE_MEM, STORE_MEM_ACK, STORE_REQ, WB_REQ, WBGUARD_REQ,
 };
 use program_io::print_text;
+use std::io;
+use std::io::{BufWriter, Write};
 
 // The line of 01's listing; the last line that 48 bits can address; a tile that is neither in the first row nor in the first column.
 const LISTING_LINE: u64 = 0x80001040;
@@ -40,16 +42,16 @@ const LISTING_WORD: u64 = 7;
 
 const GREATEST_WORD: u64 = 0xFFFFFFFFFFFFFFFF;
 
-fn show(line: u64, queue: u64, tile: u64, message: Row) {
+fn show<W: Write>(out: &mut W, line: u64, queue: u64, tile: u64, message: Row) -> io::Result<()> {
     let mut buffer = [0u64; MOST_FLITS];
     let done = message_flits::write_message(&mut buffer, 0, line, queue, tile, message);
     if done.refusal == ACCEPTED {
-        print_text(b">");
-        program_io::print_words(&buffer, done.flits);
+        print_text(out, b">")?;
+        program_io::print_words(out, &buffer, done.flits)?;
     } else {
-        program_io::print_named(b"refused", done.refusal);
+        program_io::print_named(out, b"refused", done.refusal)?;
     }
-    print_text(b"\n");
+    print_text(out, b"\n")
 }
 
 // A message without data.
@@ -85,73 +87,115 @@ fn listed(kind: u64, state: u64, flag: u64) -> Row {
     }
 }
 
-fn listing() {
+fn listing<W: Write>(out: &mut W) -> io::Result<()> {
     show(
+        out,
         LISTING_LINE,
         NOC1,
         FIRST_TILE,
         bare(LOAD_REQ, FIRST_WORD, NONE),
-    );
-    show(LISTING_LINE, TO_MEMORY, NONE, bare(LOAD_MEM, NONE, NONE));
+    )?;
     show(
+        out,
+        LISTING_LINE,
+        TO_MEMORY,
+        NONE,
+        bare(LOAD_MEM, NONE, NONE),
+    )?;
+    show(
+        out,
         LISTING_LINE,
         FROM_MEMORY,
         NONE,
         listed(LOAD_MEM_ACK, NONE, NONE),
-    );
+    )?;
     show(
+        out,
         LISTING_LINE,
         NOC2,
         FIRST_TILE,
         listed(DATA_ACK, STATE_E, MISS),
-    );
+    )
 }
 
-fn from_tile() {
-    show(LAST_LINE, NOC1, TILE, bare(LOAD_REQ, LAST_WORD, NONE));
-    show(LAST_LINE, NOC1, TILE, bare(STORE_REQ, LAST_WORD, NONE));
-    show(LAST_LINE, NOC1, TILE, bare(WBGUARD_REQ, NONE, NONE));
-    show(LAST_LINE, NOC3, TILE, full(WB_REQ, NONE, NONE));
-    show(LAST_LINE, NOC3, TILE, bare(LOAD_FWDACK, NONE, STATE_I));
-    show(LAST_LINE, NOC3, TILE, bare(LOAD_FWDACK, NONE, STATE_S));
-    show(LAST_LINE, NOC3, TILE, full(LOAD_FWDACK, STATE_S, WITH_DATA));
-    show(LAST_LINE, NOC3, TILE, bare(STORE_FWDACK, NONE, NONE));
-    show(LAST_LINE, NOC3, TILE, full(STORE_FWDACK, NONE, WITH_DATA));
-    show(LAST_LINE, NOC3, TILE, bare(INV_FWDACK, NONE, NONE));
-}
-
-fn to_tile() {
-    show(LAST_LINE, NOC2, TILE, bare(LOAD_FWD, NONE, NONE));
-    show(LAST_LINE, NOC2, TILE, bare(STORE_FWD, NONE, NONE));
-    show(LAST_LINE, NOC2, TILE, bare(INV_FWD, NONE, NONE));
-    show(LAST_LINE, NOC2, TILE, full(DATA_ACK, STATE_S, NO_MISS));
-    show(LAST_LINE, NOC2, TILE, full(DATA_ACK, STATE_E, NO_MISS));
-    show(LAST_LINE, NOC2, TILE, full(DATA_ACK, STATE_M, MISS));
-}
-
-fn memory() {
-    show(LAST_LINE, TO_MEMORY, NONE, bare(LOAD_MEM, NONE, NONE));
-    show(LAST_LINE, TO_MEMORY, NONE, full(STORE_MEM, NONE, NONE));
-    show(LAST_LINE, FROM_MEMORY, NONE, full(LOAD_MEM_ACK, NONE, NONE));
+fn from_tile<W: Write>(out: &mut W) -> io::Result<()> {
+    show(out, LAST_LINE, NOC1, TILE, bare(LOAD_REQ, LAST_WORD, NONE))?;
+    show(out, LAST_LINE, NOC1, TILE, bare(STORE_REQ, LAST_WORD, NONE))?;
+    show(out, LAST_LINE, NOC1, TILE, bare(WBGUARD_REQ, NONE, NONE))?;
+    show(out, LAST_LINE, NOC3, TILE, full(WB_REQ, NONE, NONE))?;
+    show(out, LAST_LINE, NOC3, TILE, bare(LOAD_FWDACK, NONE, STATE_I))?;
+    show(out, LAST_LINE, NOC3, TILE, bare(LOAD_FWDACK, NONE, STATE_S))?;
     show(
+        out,
+        LAST_LINE,
+        NOC3,
+        TILE,
+        full(LOAD_FWDACK, STATE_S, WITH_DATA),
+    )?;
+    show(out, LAST_LINE, NOC3, TILE, bare(STORE_FWDACK, NONE, NONE))?;
+    show(
+        out,
+        LAST_LINE,
+        NOC3,
+        TILE,
+        full(STORE_FWDACK, NONE, WITH_DATA),
+    )?;
+    show(out, LAST_LINE, NOC3, TILE, bare(INV_FWDACK, NONE, NONE))
+}
+
+fn to_tile<W: Write>(out: &mut W) -> io::Result<()> {
+    show(out, LAST_LINE, NOC2, TILE, bare(LOAD_FWD, NONE, NONE))?;
+    show(out, LAST_LINE, NOC2, TILE, bare(STORE_FWD, NONE, NONE))?;
+    show(out, LAST_LINE, NOC2, TILE, bare(INV_FWD, NONE, NONE))?;
+    show(out, LAST_LINE, NOC2, TILE, full(DATA_ACK, STATE_S, NO_MISS))?;
+    show(out, LAST_LINE, NOC2, TILE, full(DATA_ACK, STATE_E, NO_MISS))?;
+    show(out, LAST_LINE, NOC2, TILE, full(DATA_ACK, STATE_M, MISS))
+}
+
+fn memory<W: Write>(out: &mut W) -> io::Result<()> {
+    show(out, LAST_LINE, TO_MEMORY, NONE, bare(LOAD_MEM, NONE, NONE))?;
+    show(out, LAST_LINE, TO_MEMORY, NONE, full(STORE_MEM, NONE, NONE))?;
+    show(
+        out,
+        LAST_LINE,
+        FROM_MEMORY,
+        NONE,
+        full(LOAD_MEM_ACK, NONE, NONE),
+    )?;
+    show(
+        out,
         LAST_LINE,
         FROM_MEMORY,
         NONE,
         bare(STORE_MEM_ACK, NONE, NONE),
-    );
+    )
 }
 
-fn refused() {
-    show(LAST_LINE, NOC1, TILE, bare(NO_MESSAGE, NONE, NONE));
-    show(LAST_LINE, NOC2, TILE, full(DATA_ACK, STATE_I, NO_MISS));
-    show(ADDRESS_LIMIT, NOC1, TILE, bare(LOAD_REQ, FIRST_WORD, NONE));
-    show(ADDRESS_LIMIT, NOC1, TILE, bare(WBGUARD_REQ, NONE, NONE));
+fn refused<W: Write>(out: &mut W) -> io::Result<()> {
+    show(out, LAST_LINE, NOC1, TILE, bare(NO_MESSAGE, NONE, NONE))?;
+    show(out, LAST_LINE, NOC2, TILE, full(DATA_ACK, STATE_I, NO_MISS))?;
+    show(
+        out,
+        ADDRESS_LIMIT,
+        NOC1,
+        TILE,
+        bare(LOAD_REQ, FIRST_WORD, NONE),
+    )?;
+    show(
+        out,
+        ADDRESS_LIMIT,
+        NOC1,
+        TILE,
+        bare(WBGUARD_REQ, NONE, NONE),
+    )
 }
 
-fn main() {
-    listing();
-    from_tile();
-    to_tile();
-    memory();
-    refused();
+fn main(rt: HostRuntime) -> io::Result<()> {
+    let mut out = BufWriter::new(rt.alloc(), rt.stdout())?;
+    listing(&mut out)?;
+    from_tile(&mut out)?;
+    to_tile(&mut out)?;
+    memory(&mut out)?;
+    refused(&mut out)?;
+    out.flush()
 }

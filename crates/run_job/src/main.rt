@@ -3,12 +3,12 @@
 #![tactic(auto)]
 
 use job_print::{BENCH_WORDS, BUFFER_BYTES, INPUT_BYTES};
-use libc::STDIN_FILENO;
+use std::io;
 
-fn main() {
+fn main(rt: HostRuntime) -> io::Result<()> {
     let mut input = [0u8; INPUT_BYTES];
     let mut words = [0u64; BENCH_WORDS];
     let mut buffer = [0u8; BUFFER_BYTES];
-    let count = io::read_full(STDIN_FILENO, &mut input);
-    job_print::print_job(&mut words, &input, count, &mut buffer);
+    let count = program_io::read_full(&mut rt.stdin(), &mut input)?;
+    job_print::print_job(&mut rt.stdout(), &mut words, &input, count, &mut buffer)
 }

@@ -19,7 +19,7 @@ use Rattle.layout.specs.Queues.{push_row, push_numbers, pop_row}
 use Rattle.layout.proofs.Parts.{over_read, kept_behind, kept_before, row_numbers, set_part}
 use Rattle.tile_rules.specs.declared.moves.TileMove.{TileMove}
 use Rattle.tile_rules.specs.Steps.{with_numbers, with_state, with_line, with_word, with_noc1, without_forward, with_noc3, reply_put, state_after_reply, line_dropped, after_move, after_accepted}
-use Rattle.tile_words.specs.InPlace.{TilePut, PutsTile}
+use Rattle.tile_words.specs.InPlace.{TilePut}
 
 -- a block written over another at the same place
 pub put_put : (l m n : List ℕ) (i : ℕ) (x y : TileBlock) → i + 84 ≤ length l → TilePut l i x m → TilePut m i y n → TilePut l i y n

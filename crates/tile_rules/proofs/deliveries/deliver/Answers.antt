@@ -26,6 +26,6 @@ returns-in_default c =
     let other = ne_eqb c.args.tile.message 0 (omega arith) in
     c.on_fill.ensures
     ∙ elim c.in_default.branch [
-        in_default-via-then-message-lt16 w ↦ sym (not_forward c.args.tile other (inl (omega arith)))
+      | in_default-via-then-message-lt16 w ↦ sym (not_forward c.args.tile other (inl (omega arith)))
       | in_default-via-else-message-lt16+else-message-lt19 w ↦ sym (not_forward c.args.tile other (inr (omega arith)))
-      ]
+    ]

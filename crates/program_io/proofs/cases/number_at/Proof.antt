@@ -1,9 +1,0 @@
-use Rattle.std.proofs.Common.{sym, rules}
-use lib.ListN.{get_or-eq_default}
-use Rattle.program_io.proofs.cases.number_at.Statement.{statement}
-use Rattle.program_io.proofs.cases.number_at.Tie as tie
-
-pub number_at_spec : {M : Type 1} → statement M
-number_at_spec =
-    tie.close
-    (tie.spec (λ c. search rules) (λ c. search rules) (λ c. search rules) (λ c. sym (get_or-eq_default c.before.args.numbers.now 0 {n = c.before.args.index} c.if1.false)))
