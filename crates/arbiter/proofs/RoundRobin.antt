@@ -1,15 +1,13 @@
 -- The mask of the tiles that may be taken. Assumes nothing.
 use Prim.Native.Nat.{ℕ, suc, ◌+◌, ◌-◌, ◌≤◌, ◌<◌}
-use mathlib.Core.Path.{◌≡◌, refl, ap, sym, subst, ◌∙◌}
+use mathlib.Core.Path.{◌≡◌, refl, ap, subst, ◌∙◌}
 use mathlib.Core.Bool.{Bool, cond, true, false}
 use mathlib.Core.List.{List}
 use native.Mathlib.Omega.{arith}
-use native.Mathlib.Numerals.{add-one}
 use lib.Dec.{eqb, ltb}
-use lib.ListN.{get_or}
-use borrow.Author.Tests.{lt-ltb, le-ltb, eqb-true, eqb-false, le-leb}
+use borrow.Author.Tests.{lt-ltb, eqb-true, eqb-false}
 use Rattle.masks.specs.Mask.{has, add, add64}
-use Rattle.masks.proofs.MaskLaws.{has_add, has_add_other, has_none}
+use Rattle.masks.proofs.MaskLaws.{has_add, has_add_other}
 use Rattle.arbiter.specs.RoundRobin.{can_take, ready_from}
 
 -- one turn of the loop over the tiles, and its end

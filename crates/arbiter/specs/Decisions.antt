@@ -1,6 +1,6 @@
 -- A device of the proofs: no public promise rests on it alone. What the home does at each of its calls but the memory step, on the words of a
 -- bench. That this is document 01's step is proved (crate bench, proofs/HomeCalls.antt).
-use Rattle.std.specs.Prelude.{ℕ, ◌+◌, ◌*◌, cond, List, eqb, ltb, get_or}
+use Rattle.std.specs.Prelude.{ℕ, ◌+◌, cond, List, eqb, ltb, get_or}
 use Rattle.numbers.specs.Refusals.{no_tile_refusal}
 use Rattle.numbers.specs.Tags.{tag_taking, tag_from_tile, tag_memory_ack}
 use Rattle.layout.specs.Places.{message_state_place, message_flag_place, home_from_memory_place, tile_noc3_place}

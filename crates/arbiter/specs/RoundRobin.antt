@@ -1,6 +1,6 @@
 -- A device of the proofs: no public promise rests on it alone. The tiles of a bench's words that may be taken, and the round robin's choice
 -- among them. That this is document 01's taking is proved (crate bench, proofs/Searched.antt).
-use Rattle.std.specs.Prelude.{ℕ, suc, ◌+◌, ◌*◌, Bool, cond, true, false, List, eqb, ltb, get_or}
+use Rattle.std.specs.Prelude.{ℕ, suc, ◌+◌, Bool, cond, true, false, List, eqb, ltb, get_or}
 use Rattle.numbers.specs.Limits.{most_tiles}
 use Rattle.numbers.specs.Types.{no_message_type, wbguard_req_type}
 use Rattle.layout.specs.Places.{tile_noc1_place}

@@ -1,6 +1,6 @@
 -- A device of the proofs: no public promise rests on it alone. What the home does at a taking, on the words of a bench. That this is document
 -- 01's step is proved (crate bench, proofs/HomeCalls.antt).
-use Rattle.std.specs.Prelude.{ℕ, ◌+◌, ◌*◌, cond, List, eqb, ltb, get_or}
+use Rattle.std.specs.Prelude.{ℕ, ◌+◌, cond, List, eqb, ltb, get_or}
 use Rattle.numbers.specs.Refusals.{not_idle_refusal, nothing_there_refusal}
 use Rattle.layout.specs.Places.{home_phase_place, home_last_taken_place, home_marks_place, tile_noc1_place}
 use Rattle.layout.specs.Codes.{phase_idle}
