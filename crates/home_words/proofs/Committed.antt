@@ -8,7 +8,6 @@ use lib.Dec.{eqb}
 use lib.ListN.{length, get_or, drop}
 use borrow.Author.Tests.{eqb-true, eqb-false}
 use Rattle.lists.specs.Over.{over}
-use Rattle.masks.specs.Mask.{has}
 use Rattle.layout.specs.declared.rows.HomeBlock.{HomeBlock}
 use Rattle.layout.specs.Blocks.{bench_words, home_block_at, home_block_words, row_at, pair_at, pair_words}
 use Rattle.protocol.specs.Parts.{Tile, Call}

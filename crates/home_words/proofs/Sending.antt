@@ -26,7 +26,7 @@ use Rattle.layout.proofs.Canonical.{both_true}
 use Rattle.layout.specs.Queues.{has_room, push_row}
 use Rattle.tile_rules.specs.Steps.{tile_block}
 use Rattle.layout.proofs.Round.{forward_typed}
-use Rattle.home_rules.specs.Results.{forward_one, forward_to, forward_all, forwardsTo}
+use Rattle.home_rules.specs.Results.{forward_one, forward_to, forward_all}
 use Rattle.home_words.specs.Forwards.{has_room_for, has_rooms, forward_put, forward_put_at, forward_put_all}
 use Rattle.home_words.proofs.Places.{push_full}
 use Rattle.home_words.proofs.ForwardLoops.{next_place}

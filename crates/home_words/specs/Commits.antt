@@ -1,6 +1,6 @@
 -- A device of the proofs: no public promise rests on it alone. A home step committed to the words, with its message put on NoC2 of every
 -- tile of a mask. That this is document 01's step is proved (proofs/Committed.antt).
-use Rattle.std.specs.Prelude.{ℕ, Bool, cond, true, false, List, ◌≡◌, eqb, length}
+use Rattle.std.specs.Prelude.{ℕ, cond, true, false, List, ◌≡◌, eqb, length}
 use Rattle.numbers.specs.Limits.{words_in_line}
 use Rattle.numbers.specs.Refusals.{no_refusal, queue_full_refusal}
 use Rattle.lists.specs.Over.{over}
