@@ -19,7 +19,7 @@ use Rattle.layout.specs.declared.rows.HomeBlock.{HomeBlock}
 use Rattle.layout.specs.Blocks as blocks
 use Rattle.layout.specs.Blocks.{bench_words, home_block_at, tile_block_words, TileFull}
 use Rattle.layout.proofs.Reading.{tile_full}
-use Rattle.protocol.specs.Parts.{Words, Queue, ToMemory, FromMemory, Tile, tile_of, Line, Home, idle, awaiting_load, awaiting_owner, awaiting_acks, awaiting_store, reading, writing, request, eviction, clear_for, clear_for_eviction, bench_of, Call, taking, from_tile, memory_step, memory_ack, home_eviction, refused, Task, task, Write, storing}
+use Rattle.protocol.specs.Parts.{Words, Queue, ToMemory, FromMemory, Tile, tile_of, Line, Home, idle, awaiting_load, awaiting_owner, awaiting_acks, awaiting_store, reading, writing, request, eviction, clear_for, clear_for_eviction, bench_of, Call, taking, from_tile, memory_step, memory_ack, home_eviction, refused, task, storing}
 use Rattle.protocol.specs.Bench as rules
 use Rattle.protocol.specs.Bench.{fresh_tile, tile_at, step, front, rest, noc1, noc3, pop_noc1, pop_noc3, from_tile_on, taking_on, take_chosen, arbitrate}
 use Rattle.layout.specs.Encode.{enc_request, enc_forward, enc_reply, enc_queue, enc_tile, enc_home}
