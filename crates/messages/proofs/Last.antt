@@ -1,19 +1,18 @@
 -- Messages that were sent are the last on their queues. Assumes nothing.
-use Prim.Native.Nat.{ℕ, zero, suc, ◌+◌, ◌^◌, ◌≤◌, ◌<◌}
+use Prim.Native.Nat.{ℕ, suc, ◌+◌, ◌^◌, ◌≤◌, ◌<◌}
 use mathlib.Core.Path.{◌≡◌, refl, ap, ap₂, sym, ◌∙◌, subst}
-use mathlib.Core.Bool.{Bool, true, false, cond}
+use mathlib.Core.Bool.{Bool, cond}
 use mathlib.Core.List.{List, [], ◌∷◌, map}
 use mathlib.Core.Option
 use mathlib.Core.Option.{Option, some, none}
 use native.Mathlib.Omega.{arith}
-use lib.Dec.{eqb, leb}
-use lib.ListN.{length, get_or, set, length-set}
+use lib.ListN.{length, set, length-set}
 use lib.Seq.{get_or-set_same, get_or-set_other}
 use Rattle.masks.specs.Mask.{add}
 use Rattle.masks.proofs.MaskLaws.{has_add}
-use Rattle.protocol.specs.Parts.{Words, Queue, empty, one, two, Request, Forward, Reply, ToMemory, FromMemory, Message, on_noc1, on_noc2, on_noc3, to_memory, from_memory, Tile, tile_of, Home, Bench, bench_of, Result, refused, accepted}
+use Rattle.protocol.specs.Parts.{Words, Queue, empty, one, two, Request, Forward, Reply, ToMemory, FromMemory, Message, on_noc1, on_noc2, on_noc3, to_memory, from_memory, Tile, tile_of, Home, Bench, bench_of}
 use Rattle.protocol.specs.Home.{members}
-use Rattle.protocol.specs.Bench.{fresh_tile, tile_at, push, on_tile1, on_tile2, on_tile3, send_one, send_to, send, outcome, posted, noc1, noc3, noc2}
+use Rattle.protocol.specs.Bench.{fresh_tile, tile_at, push, on_tile1, on_tile2, on_tile3, send_one, send_to, send, noc1, noc3, noc2}
 use Rattle.protocol.specs.Answers.{sent_on, sent_to}
 use Rattle.messages.specs.declared.queues.BenchQueue.{BenchQueue}
 use Rattle.messages.specs.Queues.{bench_queue, queue_of_each, noc3_then_noc1, sent_queues}

@@ -1,22 +1,20 @@
 -- The tiles of a mask found one after the other, and the queues of them. Assumes nothing.
 use Prim.Native.Nat.{ℕ, zero, suc, ◌+◌, ◌-◌, ◌/◌, ◌%◌, ◌^◌, ◌≤◌, ◌<◌}
 use mathlib.Core.Path.{◌≡◌, refl, ap, sym, subst, ◌∙◌}
-use mathlib.Core.Bool.{Bool, true, false, cond, ◌&&◌, false≢true}
+use mathlib.Core.Bool.{Bool, true, cond}
 use mathlib.Core.List.{List, [], ◌∷◌}
 use native.Mathlib.Omega.{arith}
-use native.Mathlib.Nat.{zero-add, add_assoc}
 use native.Mathlib.Numerals.{add-one}
-use lib.Dec.{eqb, ltb, leb}
+use lib.Dec.{eqb}
 use lib.ListN.{length, get_or}
 use lib.Pow.{shr-shr, shr_lt}
 use lib.Count.{ones, ones_step, ones-le}
-use borrow.Author.Tests.{lt-ltb, ne_eqb, eqb-true}
+use borrow.Author.Tests.{lt-ltb, ne_eqb}
 use Rattle.masks.specs.Mask.{has}
 use Rattle.masks.specs.Next.{next}
 use Rattle.masks.proofs.NextLaws.{skip_to_next}
 use Rattle.protocol.specs.Home.{range, among, members}
-use Rattle.messages.specs.declared.queues.BenchQueue.{BenchQueue}
-use Rattle.messages.specs.Queues.{bench_queue, no_queue, tile_queue, queue_of_each, noc3_then_noc1, sent_queues}
+use Rattle.messages.specs.Queues.{bench_queue, no_queue, tile_queue, queue_of_each, noc3_then_noc1}
 use Rattle.messages.proofs.Rising.{Rising, members_rising}
 
 up_one : (m i : ℕ) → m / 2 ^ suc i ≡ m / 2 ^ i / 2

@@ -1,23 +1,22 @@
 -- The messages that a step answers are the last on their queues in the bench after it. Assumes nothing.
-use Prim.Native.Nat.{ℕ, zero, suc, ◌+◌, ◌≤◌, ◌<◌}
-use mathlib.Core.Path.{◌≡◌, refl, ap, sym, ◌∙◌, subst}
+use Prim.Native.Nat.{ℕ, zero, suc, ◌≤◌, ◌<◌}
+use mathlib.Core.Path.{◌≡◌, refl, sym, subst}
 use mathlib.Core.Bool.{Bool, true, false, cond}
-use mathlib.Core.List.{List, [], ◌∷◌, map}
+use mathlib.Core.List.{List, [], ◌∷◌}
 use mathlib.Core.Option.{Option, some, none}
 use native.Mathlib.Omega.{arith}
 use lib.Dec.{eqb, ltb}
-use lib.ListN.{length, get_or, set, length-set}
+use lib.ListN.{length, set, length-set}
 use borrow.Author.Tests.{ltb-true, ltb-false}
 use Rattle.masks.specs.Mask.{has, add, del}
-use Rattle.protocol.specs.Parts.{Words, Queue, empty, one, two, Access, reading, writing, State, shared, exclusive, modified, Cache, invalid, valid, Waiting, nothing, for_load, for_store, Request, load_req, store_req, wb_guard_req, Forward, inv_fwd, Reply, wb_req, load_fwd_ack_s, load_fwd_ack_i, store_fwd_ack, inv_fwd_ack, ToMemory, load_mem, store_mem, FromMemory, load_mem_ack, store_mem_ack, Message, on_noc1, on_noc2, on_noc3, to_memory, from_memory, Tile, tile_of, Directory, uncached, shared_by, owned_by, Line, absent, present, Cause, request, eviction, Clearing, clear_for, clear_for_eviction, Home, idle, awaiting_load, awaiting_owner, awaiting_acks, awaiting_store, Bench, bench_of, Call, load, store, evict, taking, to_tile, from_tile, memory_step, memory_ack, home_eviction, Result, refused, accepted, Task, task, Write, storing}
+use Rattle.protocol.specs.Parts.{Words, Queue, empty, one, two, Access, reading, writing, shared, exclusive, modified, Cache, invalid, valid, Waiting, nothing, for_load, for_store, Request, load_req, store_req, wb_guard_req, Forward, inv_fwd, Reply, wb_req, load_fwd_ack_s, load_fwd_ack_i, store_fwd_ack, inv_fwd_ack, ToMemory, load_mem, store_mem, FromMemory, load_mem_ack, store_mem_ack, Message, on_noc2, from_memory, Tile, tile_of, Directory, uncached, shared_by, owned_by, Line, absent, present, Cause, request, eviction, Clearing, clear_for, clear_for_eviction, Home, idle, awaiting_load, awaiting_owner, awaiting_acks, awaiting_store, Bench, bench_of, Call, load, store, evict, taking, to_tile, from_tile, memory_step, memory_ack, home_eviction, Result, refused, accepted, task, storing}
 use Rattle.protocol.specs.Tile.{load_at, store_at, evict_at, Received, misfit, filled, replied, receive, received, deliver_to}
 use Rattle.protocol.specs.Home.{Move, move, members, grant_shared, grant, ask_owner, invalidate_to, invalidate, leave, serve, write_back, load_ack_s, load_ack_i, store_ack, cleared, inv_ack, acknowledged, evict_line}
-use Rattle.protocol.specs.Bench as bench
 use Rattle.protocol.specs.Bench.{fresh_tile, tile_at, front, rest, send, outcome, posted, kind_of, settle, at_tile, at_word, noc1, noc3, pop_noc1, pop_noc3, served, take_front, take_chosen, taking_on, written_back, fitted, accept_reply, from_tile_on, memory_serves, memory_step_on, accept_ack, memory_ack_on, home_eviction_on, step, arbitrate}
 use Rattle.protocol.specs.Answers.{sent_on, sent_to}
 use Rattle.messages.specs.LastMessages.{sentMessages, There, OwnerIn, HomeNames, NamesTiles}
-use Rattle.messages.proofs.Rising.{Rising, members_rising}
-use Rattle.messages.proofs.Last.{tiles_of, tell, Shape, silent, asks, replies, writes_back, tells, files, answers, Sent, all_sent, silent_there, there_messages}
+use Rattle.messages.proofs.Rising.{members_rising}
+use Rattle.messages.proofs.Last.{tiles_of, Shape, silent, asks, replies, writes_back, tells, files, answers, Sent, all_sent, silent_there, there_messages}
 
 -- ---- what each rule sends
 

@@ -3,7 +3,7 @@ use Rattle.std.specs.Prelude.{ℕ, ◌+◌, ◌-◌, ◌*◌, cond, List, eqb, l
 use Rattle.numbers.specs.Limits.{most_tiles}
 use Rattle.numbers.specs.Queues.{no_queue_number, noc1_queue, noc2_queue, noc3_queue, to_memory_queue, from_memory_queue}
 use Rattle.numbers.specs.Types.{no_message_type}
-use Rattle.layout.specs.Places.{second_place, queue_size, tile_noc1_place, home_to_memory_place, home_from_memory_place}
+use Rattle.layout.specs.Places.{queue_size, tile_noc1_place, home_to_memory_place, home_from_memory_place}
 use Rattle.layout.specs.declared.rows.Row.{Row}
 use Rattle.layout.specs.declared.rows.Pair.{Pair}
 use Rattle.layout.specs.Blocks.{tile_place, pair_at, message_type}
