@@ -1,26 +1,18 @@
 -- How a bench is laid out in its words, and what reading and writing a block of it does. Assumes nothing.
-use Prim.Native.Nat.{ℕ, suc, ◌+◌, ◌-◌, ◌*◌, ◌≤◌, ◌<◌}
-use mathlib.Core.Path.{◌≡◌, refl, ap, sym, ◌∙◌, subst}
-use mathlib.Core.Bool.{Bool, cond, true, false, ◌&&◌}
+use Prim.Native.Nat.{ℕ, suc, ◌+◌, ◌*◌, ◌≤◌, ◌<◌}
+use mathlib.Core.Path.{◌≡◌, refl, ap, sym, ◌∙◌}
 use mathlib.Core.List.{List, [], ◌∷◌, ◌++◌, append_assoc}
 use native.Mathlib.Omega.{arith}
-use native.Mathlib.Nat.{zero-add, add_assoc}
-use lib.ListN.{length, get_or, take, drop, set, length-append, length-set, take-append-drop}
-use lib.Seq.{drop-drop, take-add, get_or-set_same, get_or-set_other}
+use lib.ListN.{length, set, length-append}
 use Rattle.lists.specs.Over.{over}
-use Rattle.layout.specs.declared.rows.TileBlock.{TileBlock}
 use Rattle.layout.specs.declared.rows.HomeBlock.{HomeBlock}
 use Rattle.layout.specs.Blocks as blocks
 use Rattle.layout.specs.Blocks.{bench_words, tile_block_words, home_block_words, home_block_at, TileFull, HomeFull}
-use Rattle.layout.proofs.Over.{length_tile, length_home, tile_words, home_words_lem}
-use Rattle.layout.proofs.Reading.{tile_at_lem, tile_behind, home_front, tile_full, home_full, over_behind, over_front}
-use Rattle.protocol.specs.Parts.{Words, Queue, Tile, ToMemory, FromMemory, Home, Bench, bench_of}
-use Rattle.protocol.specs.Bench.{fresh_tile, tile_at}
+use Rattle.layout.proofs.Over.{length_tile, length_home}
+use Rattle.layout.proofs.Reading.{tile_at_lem, tile_behind, home_front, over_behind, over_front}
+use Rattle.protocol.specs.Parts.{Words, Queue, Tile, ToMemory, FromMemory, Home, bench_of}
+use Rattle.protocol.specs.Bench.{tile_at}
 use Rattle.layout.specs.Encode.{enc_tile, enc_tiles, enc_home, encode}
-use Rattle.layout.specs.Decode.{dec_tile, dec_tiles}
-use Rattle.layout.specs.Canonical.{tile_ok, home_ok}
-use Rattle.layout.proofs.Canonical.{both_true, tile_canonical}
-use Rattle.calls.specs.Calls.{tiles_ok, well_formed}
 
 -- each tile's block has rows of eight words
 abbrev pub AllFull : List Tile → Type 0

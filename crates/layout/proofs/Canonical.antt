@@ -1,6 +1,6 @@
 -- A block that passes its test is the encoding of what it is read as. Assumes nothing.
 use Prim.Native.Nat.{ℕ, ◌%◌, ◌^◌}
-use mathlib.Core.Path.{◌≡◌, refl, ap, sym, ◌∙◌}
+use mathlib.Core.Path.{◌≡◌, refl, sym, ◌∙◌}
 use mathlib.Core.Bool.{Bool, cond, true, false, ◌&&◌, false≢true}
 use mathlib.Core.List.{List, [], ◌∷◌}
 use lib.Dec.{eqb}
@@ -9,8 +9,8 @@ use Rattle.layout.specs.declared.rows.Row.{Row}
 use Rattle.layout.specs.declared.rows.Pair.{Pair}
 use Rattle.layout.specs.declared.rows.TileBlock.{TileBlock}
 use Rattle.layout.specs.declared.rows.HomeBlock.{HomeBlock}
-use Rattle.protocol.specs.Parts.{Queue, empty, one, two}
-use Rattle.layout.specs.Encode.{no_row, enc_request, enc_forward, enc_reply, enc_to_memory, enc_from_memory, enc_queue, enc_head, enc_tile, enc_home, enc_line, line_of, phase_number, requester, owed_tiles}
+use Rattle.protocol.specs.Parts.{empty, one, two}
+use Rattle.layout.specs.Encode.{no_row, enc_request, enc_forward, enc_reply, enc_to_memory, enc_from_memory, enc_queue, enc_head, enc_tile, enc_home, enc_line, line_of, phase_number}
 use Rattle.layout.specs.Decode.{dec_request, dec_forward, dec_reply, dec_to_memory, dec_from_memory, dec_queue, dec_cache, dec_waiting, dec_tile, dec_home}
 use Rattle.layout.specs.Canonical.{same, same_row, same_pair, canon_message, canon_queue, tile_ok, canon_control, home_ok}
 

@@ -1,9 +1,9 @@
 -- What is read where the words of a block stand is that block. Assumes nothing.
-use Prim.Native.Nat.{ℕ, suc, ◌+◌, ◌-◌, ◌≤◌, ◌<◌, min}
+use Prim.Native.Nat.{ℕ, ◌+◌, ◌≤◌}
 use mathlib.Core.Path.{◌≡◌, refl, ap, sym, ◌∙◌}
 use mathlib.Core.List.{List, [], ◌∷◌, ◌++◌, append_assoc}
 use native.Mathlib.Omega.{arith}
-use native.Mathlib.Nat.{add_assoc, zero-add}
+use native.Mathlib.Nat.{add_assoc}
 use lib.ListN.{length, get_or, take, drop, length-append, length-take, length-drop}
 use lib.Seq.{take-append-add, drop-append-add, get_or-append-add, take_at, drop_at}
 use Rattle.lists.specs.Over.{over}
@@ -12,7 +12,7 @@ use Rattle.layout.specs.declared.rows.Pair.{Pair}
 use Rattle.layout.specs.declared.rows.TileBlock.{TileBlock}
 use Rattle.layout.specs.declared.rows.HomeBlock.{HomeBlock}
 use Rattle.layout.specs.Blocks.{row_at, pair_at, tile_block_at, home_block_at, row_words, pair_words, tile_block_words, home_block_words, PairFull, TileFull, HomeFull}
-use Rattle.layout.proofs.Over.{length_row, length_pair, length_tile}
+use Rattle.layout.proofs.Over.{length_row, length_pair}
 
 -- behind a list A, everything is read at places further on
 module _ (A l : List ℕ) where

@@ -15,7 +15,7 @@ use Rattle.layout.specs.declared.rows.Pair.{Pair}
 use Rattle.layout.specs.declared.rows.TileBlock.{TileBlock}
 use Rattle.layout.specs.declared.rows.HomeBlock.{HomeBlock}
 use Rattle.layout.specs.Blocks.{PairFull, TileFull, HomeFull}
-use Rattle.protocol.specs.Parts.{Words, Queue, empty, one, two, reading, writing, State, shared, exclusive, modified, Cache, invalid, valid, Waiting, nothing, for_load, for_store, Request, load_req, store_req, wb_guard_req, Forward, load_fwd, store_fwd, inv_fwd, data_ack, Reply, wb_req, load_fwd_ack_s, load_fwd_ack_i, store_fwd_ack, inv_fwd_ack, ToMemory, load_mem, store_mem, FromMemory, load_mem_ack, store_mem_ack, Tile, tile_of, Directory, uncached, shared_by, owned_by, Line, absent, present, request, eviction, clear_for, clear_for_eviction, Home, idle, awaiting_load, awaiting_owner, awaiting_acks, awaiting_store, bench_of, Task, task, Write, storing, state_number, cache_state}
+use Rattle.protocol.specs.Parts.{Words, Queue, empty, one, two, reading, writing, State, shared, exclusive, modified, Cache, invalid, valid, Waiting, nothing, for_load, for_store, Request, load_req, store_req, wb_guard_req, Forward, load_fwd, store_fwd, inv_fwd, data_ack, Reply, wb_req, load_fwd_ack_s, load_fwd_ack_i, store_fwd_ack, inv_fwd_ack, ToMemory, load_mem, store_mem, FromMemory, load_mem_ack, store_mem_ack, Tile, tile_of, Directory, uncached, shared_by, owned_by, Line, absent, present, request, eviction, clear_for, clear_for_eviction, Home, idle, awaiting_load, awaiting_owner, awaiting_acks, awaiting_store, bench_of, task, storing, state_number, cache_state}
 use Rattle.layout.specs.Encode.{row, flag, enc_request, enc_forward, enc_reply, enc_to_memory, enc_from_memory, enc_queue, cache_words, waiting_number, waiting_word, waiting_value, enc_head, enc_tile, directory_number, holders, enc_line, line_of, phase_number, requester, owed_tiles, enc_home}
 use Rattle.layout.specs.Decode.{is_set, dec_state, dec_request, dec_forward, ack_data, dec_reply, dec_to_memory, dec_from_memory, dec_queue, dec_cache, dec_waiting, dec_tile, dec_directory, dec_line, dec_home, bench_from}
 use Rattle.layout.specs.Canonical.{same, same_row, same_pair, canon_queue, tile_ok, canon_control, home_ok}

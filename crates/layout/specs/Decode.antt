@@ -1,6 +1,6 @@
 -- What numbers stand for. Every number is read as something in range: whether the numbers are those of a bench is asked by
 -- encoding what was read and comparing (docs/PROVED.md has 01's well-formedness point by point).
-use Rattle.std.specs.Prelude.{ℕ, suc, ◌+◌, ◌%◌, ◌^◌, Bool, cond, true, false, not, List, [], ◌∷◌, eqb}
+use Rattle.std.specs.Prelude.{ℕ, suc, ◌+◌, ◌%◌, ◌^◌, Bool, cond, not, List, [], ◌∷◌, eqb}
 use Rattle.std.proofs.Math.Option.{Option, some, none}
 use Rattle.numbers.specs.Types.{no_message_type, load_req_type, store_req_type, load_fwd_type, store_fwd_type, inv_fwd_type, wb_req_type, load_fwdack_type, store_fwdack_type, load_mem_type, load_mem_ack_type}
 use Rattle.numbers.specs.States.{state_i, state_s, state_e}
@@ -12,7 +12,7 @@ use Rattle.layout.specs.declared.rows.Pair.{Pair}
 use Rattle.layout.specs.declared.rows.TileBlock.{TileBlock}
 use Rattle.layout.specs.declared.rows.HomeBlock.{HomeBlock}
 use Rattle.layout.specs.Blocks.{tile_block_at, home_block_at, message_type, message_word, message_state, message_flag, head_state, head_waiting, head_word, head_value, line_valid, line_dirty, line_directory_number, line_holders, control_last_taken, control_marks, control_requester, control_owed}
-use Rattle.protocol.specs.Parts.{Words, Queue, empty, one, two, Access, reading, writing, State, shared, exclusive, modified, Cache, invalid, valid, Waiting, nothing, for_load, for_store, Request, load_req, store_req, wb_guard_req, Forward, load_fwd, store_fwd, inv_fwd, data_ack, Reply, wb_req, load_fwd_ack_s, load_fwd_ack_i, store_fwd_ack, inv_fwd_ack, ToMemory, load_mem, store_mem, FromMemory, load_mem_ack, store_mem_ack, Tile, tile_of, Directory, uncached, shared_by, owned_by, Line, absent, present, Cause, request, eviction, Clearing, clear_for, clear_for_eviction, Home, idle, awaiting_load, awaiting_owner, awaiting_acks, awaiting_store, Bench, bench_of, Task, task, Write, storing}
+use Rattle.protocol.specs.Parts.{Words, Queue, empty, one, two, reading, writing, State, shared, exclusive, modified, Cache, invalid, valid, Waiting, nothing, for_load, for_store, Request, load_req, store_req, wb_guard_req, Forward, load_fwd, store_fwd, inv_fwd, data_ack, Reply, wb_req, load_fwd_ack_s, load_fwd_ack_i, store_fwd_ack, inv_fwd_ack, ToMemory, load_mem, store_mem, FromMemory, load_mem_ack, store_mem_ack, Tile, tile_of, Directory, uncached, shared_by, owned_by, Line, absent, present, request, eviction, clear_for, clear_for_eviction, Home, idle, awaiting_load, awaiting_owner, awaiting_acks, awaiting_store, Bench, bench_of, task, storing}
 
 unfoldable pub is_set : ℕ → Bool
 is_set x = not (eqb x 0)

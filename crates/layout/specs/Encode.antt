@@ -1,6 +1,6 @@
 -- The numbers of each part of a bench, as docs/LAYOUT.md gives them. What a part does not use is 0.
 use Rattle.std.specs.Prelude.{ℕ, Bool, true, false, List, [], ◌∷◌, ◌++◌, length}
-use Rattle.std.proofs.Math.Option.{Option, some, none}
+use Rattle.std.proofs.Math.Option.{some, none}
 use Rattle.numbers.specs.Types.{no_message_type, load_req_type, store_req_type, wbguard_req_type, load_fwd_type, store_fwd_type, inv_fwd_type, data_ack_type, wb_req_type, load_fwdack_type, store_fwdack_type, inv_fwdack_type, load_mem_type, store_mem_type, load_mem_ack_type, store_mem_ack_type}
 use Rattle.numbers.specs.States.{state_i, state_s}
 use Rattle.layout.specs.Codes.{phase_idle, phase_loading_for_load, phase_loading_for_store, phase_owner_for_load, phase_owner_for_store, phase_owner_for_eviction, phase_acks_for_store, phase_acks_for_eviction, phase_storing, directory_i, directory_s, directory_e, waits_for_nothing, waits_for_load, waits_for_store}
@@ -9,7 +9,7 @@ use Rattle.layout.specs.declared.rows.Pair.{Pair}
 use Rattle.layout.specs.declared.rows.TileBlock.{TileBlock}
 use Rattle.layout.specs.declared.rows.HomeBlock.{HomeBlock}
 use Rattle.layout.specs.Blocks.{tile_block_words, home_block_words}
-use Rattle.protocol.specs.Parts.{Words, Queue, empty, one, two, Access, reading, writing, State, shared, exclusive, modified, Cache, invalid, valid, state_number, cache_state, Waiting, nothing, for_load, for_store, Request, load_req, store_req, wb_guard_req, Forward, load_fwd, store_fwd, inv_fwd, data_ack, Reply, wb_req, load_fwd_ack_s, load_fwd_ack_i, store_fwd_ack, inv_fwd_ack, ToMemory, load_mem, store_mem, FromMemory, load_mem_ack, store_mem_ack, Tile, tile_of, Directory, uncached, shared_by, owned_by, Line, absent, present, Cause, request, eviction, Clearing, clear_for, clear_for_eviction, Home, idle, awaiting_load, awaiting_owner, awaiting_acks, awaiting_store, Bench, bench_of, Task, task, Write, storing}
+use Rattle.protocol.specs.Parts.{Words, Queue, empty, one, two, reading, writing, Cache, invalid, valid, state_number, cache_state, Waiting, nothing, for_load, for_store, Request, load_req, store_req, wb_guard_req, Forward, load_fwd, store_fwd, inv_fwd, data_ack, Reply, wb_req, load_fwd_ack_s, load_fwd_ack_i, store_fwd_ack, inv_fwd_ack, ToMemory, load_mem, store_mem, FromMemory, load_mem_ack, store_mem_ack, Tile, tile_of, Directory, uncached, shared_by, owned_by, Line, absent, present, request, eviction, clear_for, clear_for_eviction, Home, idle, awaiting_load, awaiting_owner, awaiting_acks, awaiting_store, Bench, bench_of, task, storing}
 
 abbrev pub zeros : Words
 zeros = 0 ∷ 0 ∷ 0 ∷ 0 ∷ 0 ∷ 0 ∷ 0 ∷ 0 ∷ []

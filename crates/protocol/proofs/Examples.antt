@@ -1,9 +1,9 @@
 -- Steps of 01 that two tiles cannot show, and what the words of the statements say of some benches, computed. Assumes nothing.
 use Prim.Native.Nat.{ℕ}
 use mathlib.Core.Path.{◌≡◌, refl, ap, sym}
-use mathlib.Core.Bool.{cond, true, false, false≢true}
+use mathlib.Core.Bool.{true, false, false≢true}
 use mathlib.Core.List.{List, [], ◌∷◌, map}
-use mathlib.Core.Option.{some, none}
+use mathlib.Core.Option.{some}
 use Rattle.masks.specs.Mask.{has, add, del}
 use Rattle.protocol.specs.Parts.{Tile, tile_of, invalid, valid, shared, exclusive, modified, nothing, empty, one, load_req, wb_guard_req, inv_fwd, wb_req, on_noc1, on_noc2, on_noc3, shared_by, owned_by, absent, idle, awaiting_acks, clear_for_eviction, Bench, bench_of, Call, load, store, evict, taking, to_tile, from_tile, memory_step, memory_ack, home_eviction}
 use Rattle.protocol.specs.Tile.{load_at}

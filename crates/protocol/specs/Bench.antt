@@ -6,7 +6,7 @@ use Rattle.masks.specs.Mask.{has, add, del}
 use Rattle.numbers.specs.Kinds.{kind_other, kind_sent}
 use Rattle.numbers.specs.Limits.{words_in_line}
 use Rattle.numbers.specs.Refusals.{no_tile_refusal, no_word_refusal, no_line_refusal, not_idle_refusal, nothing_there_refusal, misfit_refusal, queue_full_refusal}
-use Rattle.protocol.specs.Parts.{Words, Queue, empty, one, two, Access, reading, writing, Cache, invalid, Waiting, nothing, Request, load_req, store_req, wb_guard_req, Forward, Reply, wb_req, load_fwd_ack_s, load_fwd_ack_i, store_fwd_ack, inv_fwd_ack, ToMemory, load_mem, store_mem, FromMemory, load_mem_ack, store_mem_ack, Message, on_noc1, on_noc2, on_noc3, to_memory, from_memory, Tile, tile_of, Line, absent, present, Home, idle, awaiting_load, awaiting_owner, awaiting_acks, awaiting_store, Bench, bench_of, Call, load, store, evict, taking, to_tile, from_tile, memory_step, memory_ack, home_eviction, Result, refused, accepted, Task, task, Write, storing}
+use Rattle.protocol.specs.Parts.{Words, Queue, empty, one, two, reading, writing, invalid, nothing, Request, load_req, store_req, wb_guard_req, Forward, Reply, wb_req, load_fwd_ack_s, load_fwd_ack_i, store_fwd_ack, inv_fwd_ack, ToMemory, load_mem, store_mem, FromMemory, load_mem_ack, store_mem_ack, Message, on_noc1, on_noc2, on_noc3, to_memory, from_memory, Tile, tile_of, Line, absent, present, Home, idle, awaiting_load, awaiting_owner, awaiting_acks, awaiting_store, Bench, bench_of, Call, load, store, evict, taking, to_tile, from_tile, memory_step, memory_ack, home_eviction, Result, refused, accepted, task, storing}
 use Rattle.protocol.specs.Tile.{load_at, store_at, evict_at, deliver_to}
 use Rattle.protocol.specs.Home.{Move, move, range, serve, write_back, load_ack_s, load_ack_i, store_ack, inv_ack, acknowledged, evict_line}
 

@@ -1,9 +1,9 @@
 -- Document 01, 'The bench': what the home does. A rule gives the home after it and the messages that it sends, in order of
 -- sending; the messages are put on their queues, with the test of their room, in one place (Bench.antt).
-use Rattle.std.specs.Prelude.{ℕ, suc, ◌+◌, ◌-◌, Bool, cond, true, false, List, [], ◌∷◌, ◌++◌, map, eqb}
+use Rattle.std.specs.Prelude.{ℕ, suc, Bool, cond, true, false, List, [], ◌∷◌, map, eqb}
 use Rattle.std.proofs.Math.Option.{Option, some, none}
 use Rattle.masks.specs.Mask.{has, add, del}
-use Rattle.protocol.specs.Parts.{Words, Queue, empty, one, two, Access, reading, writing, State, shared, exclusive, modified, Request, load_req, store_req, wb_guard_req, Forward, load_fwd, store_fwd, inv_fwd, data_ack, Reply, wb_req, load_fwd_ack_s, load_fwd_ack_i, store_fwd_ack, inv_fwd_ack, ToMemory, load_mem, store_mem, FromMemory, load_mem_ack, store_mem_ack, Message, on_noc2, to_memory, Directory, uncached, shared_by, owned_by, Line, absent, present, Cause, request, eviction, Clearing, clear_for, clear_for_eviction, Home, idle, awaiting_load, awaiting_owner, awaiting_acks, awaiting_store, Task, task, Write, storing}
+use Rattle.protocol.specs.Parts.{Words, Access, reading, writing, shared, exclusive, modified, Forward, load_fwd, store_fwd, inv_fwd, data_ack, load_mem, store_mem, FromMemory, load_mem_ack, store_mem_ack, Message, on_noc2, to_memory, Directory, uncached, shared_by, owned_by, Line, absent, present, Cause, request, eviction, Clearing, clear_for, clear_for_eviction, Home, idle, awaiting_load, awaiting_owner, awaiting_acks, awaiting_store, Task, task, storing}
 
 -- the home after a rule, and what it sends
 pub data Move : Type 0 where

@@ -1,6 +1,6 @@
 -- Document 01, 'The bench': load, store, evict and delivery to a tile, as they act on that tile (number t). A rule gives the
 -- tile without what it sends: the messages are put on their queues, with the test of their room, in one place (Bench.antt).
-use Rattle.std.specs.Prelude.{ℕ, cond, false, true, List, [], ◌∷◌, ltb, get_or, set}
+use Rattle.std.specs.Prelude.{ℕ, [], ◌∷◌, get_or, set}
 use Rattle.std.proofs.Math.Option.{some, none}
 use Rattle.numbers.specs.Kinds.{kind_other, kind_loaded, kind_stored, kind_sent}
 use Rattle.numbers.specs.Refusals.{tile_waits_refusal, no_line_refusal, nothing_there_refusal, misfit_refusal}

@@ -1,7 +1,7 @@
 -- The tests of a tile's head and of the home's block are those by encoding anew. Assumes nothing.
 use Prim.Native.Nat.{ℕ, ◌+◌, ◌%◌, ◌^◌, ◌<◌}
 use mathlib.Core.Path.{◌≡◌, refl, ap, sym, ◌∙◌, subst}
-use mathlib.Core.Bool.{Bool, true, false, cond, ◌&&◌, and-true, and-false, and_assoc, and_comm}
+use mathlib.Core.Bool.{Bool, true, false, ◌&&◌, and-true, and-false, and_assoc, and_comm}
 use mathlib.Core.List.{List}
 use native.Mathlib.Omega.{arith}
 use lib.Dec.{eqb, ltb}
@@ -12,11 +12,11 @@ use Rattle.layout.specs.declared.rows.Row.{Row}
 use Rattle.layout.specs.declared.rows.HomeBlock.{HomeBlock}
 use Rattle.layout.specs.Blocks.{row_at, pair_at}
 use Rattle.protocol.specs.Parts.{present, shared_by, owned_by, Home, cache_state}
-use Rattle.layout.specs.Encode.{flag, enc_head, cache_words, waiting_number, waiting_word, waiting_value, directory_number, holders, phase_number, requester, owed_tiles, enc_line, line_of}
+use Rattle.layout.specs.Encode.{enc_head, cache_words, waiting_number, waiting_word, waiting_value, directory_number, holders, phase_number, requester, owed_tiles, enc_line, line_of}
 use Rattle.layout.specs.Decode.{is_set, dec_cache, dec_waiting, dec_directory, dec_line, dec_home}
 use Rattle.layout.specs.Canonical.{same, same_row, same_pair, canon_queue, canon_control, home_ok}
 use Rattle.well_formed.specs.Fields.{waiting_numbers_ok, phase_numbers_ok}
-use Rattle.well_formed.proofs.NumberLaws.{or_none, or_clear, mod_below, flip, zero_left, one_left, ne_left, equal_self}
+use Rattle.well_formed.proofs.NumberLaws.{or_none, or_clear, mod_below, flip, zero_left, equal_self}
 use Rattle.well_formed.specs.Rows.{none_at}
 use Rattle.well_formed.proofs.RowLaws.{same_self}
 use Rattle.well_formed.specs.Blocks.{queues_ok, memory_ok, cache_ok}

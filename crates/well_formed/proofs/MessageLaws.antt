@@ -1,10 +1,10 @@
 -- The tests of a request, a forward and a reply are those by encoding anew. Assumes nothing.
-use Prim.Native.Nat.{ℕ, ◌%◌, ◌≤◌, ◌<◌}
+use Prim.Native.Nat.{ℕ, ◌%◌, ◌≤◌}
 use mathlib.Core.Path.{◌≡◌, refl}
 use mathlib.Core.Bool.{Bool, true, false, ◌&&◌, and-true, and-false, and_assoc}
 use native.Mathlib.Omega.{arith}
-use lib.Dec.{eqb, ltb, leb}
-use borrow.Author.Tests.{eqb-true, eqb-false, lt-ltb, le-ltb, le-leb, lt-leb, eq-eqb, ne_eqb}
+use lib.Dec.{eqb, ltb}
+use borrow.Author.Tests.{eqb-true, eqb-false, lt-leb, ne_eqb}
 use Rattle.layout.specs.declared.rows.Row.{Row}
 use Rattle.layout.specs.Encode.{zeros, enc_request, enc_forward, enc_reply}
 use Rattle.layout.specs.Decode.{dec_request, dec_forward, dec_reply, ack_data}

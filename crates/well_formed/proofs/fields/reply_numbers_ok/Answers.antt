@@ -1,7 +1,5 @@
 use borrow.Author.Tests.{eq-eqb, ne_eqb}
 use Rattle.well_formed.specs.Fields.{reply_numbers_ok}
-use Rattle.well_formed.proofs.fields.reply_numbers_ok.Reads as reads
-use Rattle.well_formed.proofs.fields.reply_numbers_ok.Lts as lts
 use Rattle.well_formed.proofs.fields.reply_numbers_ok.Goals as goal
 
 pub returns-then-message-eq-WB_REQ : goal.returns-then-message-eq-WB_REQ

@@ -1,7 +1,5 @@
 use borrow.Author.Tests.{ne_eqb}
 use Rattle.well_formed.specs.Fields.{waiting_numbers_ok}
-use Rattle.well_formed.proofs.fields.waiting_numbers_ok.Reads as reads
-use Rattle.well_formed.proofs.fields.waiting_numbers_ok.Lts as lts
 use Rattle.well_formed.proofs.fields.waiting_numbers_ok.Goals as goal
 
 pub returns-in-0 : goal.returns-in-0
