@@ -1,8 +1,7 @@
 -- Document 01, 'Flits of a bench': the fields and data of the message m on queue q, by its number and tile t, of a bench whose line has this
 -- address. A bench keeps only a message's type, word, state, miss and data; the rest follows from here, and from the flit table (`row_of`)
 -- where that leaves no choice.
-use Rattle.std.specs.Prelude.{ℕ, ◌+◌, ◌*◌, ◌/◌, ◌%◌, ◌^◌, ◌<◌, ◌≡◌, Bool, cond, not, List, [], eqb, ltb, leb, length, take}
-use Rattle.std.proofs.Math.Option.{Option, some, none}
+use Rattle.std.specs.Prelude.{ℕ, ◌+◌, ◌*◌, ◌/◌, ◌%◌, ◌^◌, ◌<◌, cond, List, eqb, ltb, leb, length, take}
 use Rattle.flits.specs.Words.{Node, Header, address_bits}
 use Rattle.flits.specs.Table.{TypeRow, row_of, header_extra}
 use Rattle.numbers.specs.Limits.{most_tiles, words_in_line, word_bytes}
