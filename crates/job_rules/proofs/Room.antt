@@ -1,11 +1,11 @@
 -- A call's lines are at most 12,180 bytes: its own, of four numbers, and at most 64 messages of at most eleven flits. Assumes nothing.
-use Prim.Native.Nat.{ℕ, zero, suc, ◌+◌, ◌*◌, ◌/◌, ◌%◌, ◌≤◌, ◌<◌}
-use mathlib.Core.Path.{◌≡◌, refl, ap, sym, ◌∙◌}
+use Prim.Native.Nat.{ℕ, suc, ◌+◌, ◌*◌, ◌≤◌}
+use mathlib.Core.Path.{◌≡◌, refl, ap, sym}
 use mathlib.Core.Bool.{Bool, true, false, cond}
-use mathlib.Core.List.{List, [], ◌∷◌, ◌++◌}
+use mathlib.Core.List.{List, [], ◌∷◌}
 use native.Mathlib.Omega.{arith}
 use borrow.Author.Tests.{eqb-true, le-leb}
-use lib.Dec.{eqb, ltb, leb}
+use lib.Dec.{eqb, leb}
 use lib.ListN.{length, length-append}
 use Rattle.lists.specs.Over.{bufferAfter, placeAfter, Placed, Put}
 use Rattle.lists.proofs.OverLaws.{over_nil, placed_put, placed_length, join}
@@ -13,16 +13,15 @@ use Rattle.protocol.specs.Home.{members}
 use Rattle.coherence.proofs.Falls.{members_length}
 use Rattle.protocol.specs.declared.Answer.{Answer}
 use Rattle.messages.specs.declared.queues.BenchQueue.{BenchQueue}
-use Rattle.messages.specs.Queues.{bench_queue, queue_of_each, noc3_then_noc1, sent_queues}
+use Rattle.messages.specs.Queues.{queue_of_each, noc3_then_noc1, sent_queues}
 use Rattle.messages.specs.declared.Sent.{Sent}
 use Rattle.messages.specs.Rows.{sent_at}
 use Rattle.message_flits.specs.Fields.{message_fields, message_data}
 use Rattle.flits.specs.Writing.{write_refusal, flits_of}
-use Rattle.listing.specs.Digits.{decimal}
-use Rattle.listing.specs.Lines.{call_line, message_line}
+use Rattle.listing.specs.Lines.{call_line}
 use Rattle.listing.proofs.DigitLaws.{decimal_le}
 use Rattle.listing.proofs.LineLaws.{call_length, message_length}
-use Rattle.job_rules.specs.Buffers.{buffers_after, placesAfter, AllPlaced}
+use Rattle.job_rules.specs.Buffers.{buffers_after, placesAfter}
 use Rattle.job_rules.specs.AnswerLines.{sent_flits, sent_line, sent_lines, answer_lines}
 use Rattle.job_rules.specs.Room.{bytes_of, most_call_bytes, FittedStatement, RoomStatement}
 use Rattle.flits.proofs.Laws.{flits_length}
