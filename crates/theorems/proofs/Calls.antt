@@ -26,7 +26,7 @@ kept_words n b r l e z (accepted k v x ms) = rw z.counts (ap (λ (s : List ℕ).
 module _ (n : ℕ) (b : Bench) (r l : List ℕ) (i : InRange n b) (e : l ≡ encode b ++ r) (c : Call) where
   pub on_step : step_on l c ≡ step c b
   unfolding step_on
-  on_step = let z = encodes n b r l i e in rw (z.well_formed_lem, z.decodes)
+  on_step = let z = encodes n b r l i e in rw (z.is_well_formed, z.decodes)
 
   pub on_answer : answer_to c l ≡ answer_of (step c b)
   on_answer = ap answer_of on_step
@@ -51,7 +51,7 @@ pub calls_are_steps : (n : ℕ) (b : Bench) (r l : List ℕ) (cs : List Call) �
 calls_are_steps n b r l cs i e =
     let w = words_run n cs b r l i e in
     let z = encodes n (runs rules cs b) r (runs lent_words cs l) (runs_in n cs b i) w in
-    record { after = w; well_formed_lem = z.well_formed_lem; decodes = z.decodes; is_history = history_run n cs b r l i e }
+    record { after = w; is_well_formed = z.is_well_formed; decodes = z.decodes; is_history = history_run n cs b r l i e }
 
 pub calls : CallsStatement
 calls l w cs = calls_are_steps (tile_count l) (decoded l) (drop (bench_words (tile_count l)) l) l cs (decoded_in l w) (decoded_encoded l w)

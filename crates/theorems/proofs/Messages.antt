@@ -1,6 +1,6 @@
 -- The messages that an accepted call sent can be had after it: as many as it sent, in the order of sending, each with its queue, its
 -- tile and its row. Assumes nothing.
-use Prim.Native.Nat.{ℕ, suc, ◌+◌, ◌%◌, ◌^◌, ◌≤◌}
+use Prim.Native.Nat.{ℕ, suc, ◌%◌, ◌^◌, ◌≤◌}
 use mathlib.Core.Path.{◌≡◌, refl, ap, sym, ◌∙◌, subst}
 use mathlib.Core.Bool.{Bool, true, false, cond}
 use mathlib.Core.List.{List, [], ◌∷◌, ◌++◌, map}
@@ -109,4 +109,4 @@ sent_by_call l c k v b ms e =
     let same : after c (decoded l) ≡ b = ap (kept (decoded l)) s.1 in
     let inside : InRange (get_or l 0 0) b = subst (InRange (get_or l 0 0)) same (after_in (get_or l 0 0) c (decoded l) (decoded_in l s.0)) in
     let there = encodes (get_or l 0 0) b (drop (bench_words (get_or l 0 0)) l) (words_after l (step_on l c)) inside words in
-    call_gives l c k v b ms e (words_after l (step_on l c)) _ (subst (λ (z : Bench). Holds (words_after l (step_on l c)) z (drop (bench_words (get_or (words_after l (step_on l c)) 0 0)) (words_after l (step_on l c)))) there.decodes (decoded_holds (words_after l (step_on l c)) there.well_formed_lem))
+    call_gives l c k v b ms e (words_after l (step_on l c)) _ (subst (λ (z : Bench). Holds (words_after l (step_on l c)) z (drop (bench_words (get_or (words_after l (step_on l c)) 0 0)) (words_after l (step_on l c)))) there.decodes (decoded_holds (words_after l (step_on l c)) there.is_well_formed))

@@ -16,7 +16,7 @@ use Rattle.layout.specs.declared.rows.TileBlock.{TileBlock}
 use Rattle.layout.specs.declared.rows.HomeBlock.{HomeBlock}
 use Rattle.layout.specs.Blocks as blocks
 use Rattle.layout.specs.Blocks.{pair_at, home_block_at}
-use Rattle.protocol.specs.Parts.{Words, Queue, empty, one, two, Request, load_req, store_req, wb_guard_req, Forward, load_fwd, store_fwd, inv_fwd, data_ack, Reply, wb_req, load_fwd_ack_s, load_fwd_ack_i, store_fwd_ack, inv_fwd_ack, ToMemory, load_mem, store_mem, FromMemory, load_mem_ack, store_mem_ack, Message, on_noc1, on_noc2, on_noc3, to_memory, from_memory, Tile, tile_of, Home, Bench, bench_of}
+use Rattle.protocol.specs.Parts.{Words, Queue, empty, one, two, ToMemory, FromMemory, Message, on_noc1, on_noc2, on_noc3, to_memory, from_memory, Tile, tile_of, Home, Bench, bench_of}
 use Rattle.protocol.specs.Bench.{fresh_tile, tile_at, noc1, noc3, noc2}
 use Rattle.layout.specs.Encode.{no_row, enc_request, enc_forward, enc_reply, enc_to_memory, enc_from_memory, enc_queue, enc_tile, enc_home}
 use Rattle.messages.specs.Queues.{no_queue}

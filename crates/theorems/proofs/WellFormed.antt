@@ -111,7 +111,7 @@ module _ (h : Home) (last k : ℕ) (mem : Words) (out : Queue ToMemory) (back : 
 
 -- of the encoding of a bench in range, with r behind it
 pub record Encodes (n : ℕ) (b : Bench) (r l : List ℕ) : Type 0 where
-  pub well_formed_lem : well_formed l ≡ true
+  pub is_well_formed : well_formed l ≡ true
   pub decodes : decoded l ≡ b
   pub counts : get_or l 0 0 ≡ n
   pub behind : drop (bench_words n) l ≡ r
@@ -126,7 +126,7 @@ encodes n (bench_of h last k mem out back ts) r l i e =
     let j = subst (λ (m : ℕ). BenchIn m h last k mem out back ts) (sym i.tile_count_lem) i in
     subst (Encodes n (bench_of h last k mem out back ts) r) (sym e)
     (record {
-      well_formed_lem = passes h last k mem out back ts r j;
+      is_well_formed = passes h last k mem out back ts r j;
       decodes = decodes_to h last k mem out back ts r j;
       counts = count_is h last k mem out back ts r j ∙ i.tile_count_lem;
       behind = drop_at (encode (bench_of h last k mem out back ts)) r (bench_words n) (length_encode n (bench_of h last k mem out back ts) i);
@@ -154,7 +154,7 @@ well_formed_iff l =
     record {
       in_range = decoded_in l;
       is_encoding = decoded_encoded l;
-      well_formed_lem = λ n b r i e. (encodes n b r l i e).well_formed_lem;
+      is_well_formed = λ n b r i e. (encodes n b r l i e).is_well_formed;
       decodes = λ n b r i e. (encodes n b r l i e).decodes;
       counts = λ n b r i e. (encodes n b r l i e).counts;
       behind = λ n b r i e. (encodes n b r l i e).behind;

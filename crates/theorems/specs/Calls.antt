@@ -14,12 +14,12 @@ pub record CallsAreSteps (l : List ℕ) (b : Bench) (r : List ℕ) (cs : List Ca
   -- the words after it are those of the bench after it, and what stands behind stays
   pub after : runs lent_words cs l ≡ encode (runs rules cs b) ++ r
   -- they are well formed again, and decode to that bench
-  pub well_formed_lem : well_formed (runs lent_words cs l) ≡ true
+  pub is_well_formed : well_formed (runs lent_words cs l) ≡ true
   pub decodes : decoded (runs lent_words cs l) ≡ runs rules cs b
   -- every answer is the rules', with the messages sent
   pub is_history : history lent_words cs l ≡ history rules cs b
 
--- from all well_formed_lem words
+-- from all well-formed words
 abbrev pub CallsStatement : Type 0
 CallsStatement =
     (l : List ℕ) → well_formed l ≡ true → (cs : List Call) → CallsAreSteps l (decoded l) (drop (bench_words (tile_count l)) l) cs

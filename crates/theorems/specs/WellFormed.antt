@@ -10,12 +10,12 @@ use Rattle.calls.specs.Calls.{tile_count, well_formed}
 -- Words are well formed exactly if they begin with the encoding of a bench in range, and then they are the encoding of what they
 -- decode to, with the words behind it.
 pub record WellFormedIff (l : List ℕ) : Type 0 where
-  -- well_formed_lem words decode to a bench in range, of as many tiles as they say
+  -- well-formed words decode to a bench in range, of as many tiles as they say
   pub in_range : well_formed l ≡ true → InRange (tile_count l) (decoded l)
   -- and are its encoding, followed by what stands behind the words that so many tiles need
   pub is_encoding : well_formed l ≡ true → l ≡ encode (decoded l) ++ drop (bench_words (tile_count l)) l
   -- the encoding of a bench in range, whatever stands behind it, is well formed
-  pub well_formed_lem : (n : ℕ) (b : Bench) (r : List ℕ) → InRange n b → l ≡ encode b ++ r → well_formed l ≡ true
+  pub is_well_formed : (n : ℕ) (b : Bench) (r : List ℕ) → InRange n b → l ≡ encode b ++ r → well_formed l ≡ true
   -- decodes to that bench
   pub decodes : (n : ℕ) (b : Bench) (r : List ℕ) → InRange n b → l ≡ encode b ++ r → decoded l ≡ b
   -- says the number of its tiles

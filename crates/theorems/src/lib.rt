@@ -3,4 +3,3 @@
 // - Claims: demand 3 of document 01 and order 1 of document 02, of every list of calls on a started bench
 // - Messages: the messages that a call sent, out of the words after it, and their flits; Beats: P1 to P10
 #![tactic(auto)]
-
