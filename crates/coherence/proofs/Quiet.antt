@@ -1,4 +1,4 @@
--- Under the invariant `nextDelivery` can be accepted, unless all is quiet: no tile waits, every queue is empty, the home is idle.
+-- Under the invariant `next_delivery` can be accepted, unless all is quiet: no tile waits, every queue is empty, the home is idle.
 use Prim.Native.Nat.{ℕ, zero, suc, ◌<◌, ◌^◌}
 use mathlib.Core.Path.{◌≡◌, refl, sym, subst, ◌∙◌}
 use mathlib.Core.Bool.{Bool, true, false, not}
@@ -19,7 +19,7 @@ use Rattle.protocol.specs.Bench.{noc2}
 use Rattle.protocol.specs.Calls.{is_delivery}
 use Rattle.protocol.specs.Answers.{answer_of, is_accepted}
 use Rattle.protocol.specs.Runs.{rules, can_be_accepted}
-use Rattle.protocol.specs.Demand3.{is_misfit, is_waiting, waiting_of, tiles_of, is_empty, memory_delivery, from_delivery, to_delivery, nextDelivery, Quiet}
+use Rattle.protocol.specs.Demand3.{is_misfit, is_waiting, waiting_of, tiles_of, is_empty, memory_delivery, from_delivery, to_delivery, next_delivery, Quiet}
 use Rattle.coherence.proofs.Said.{answer}
 use Rattle.coherence.proofs.Invariant.{Relation, join, resting, load_queued, store_queued, shared_granted, exclusive_granted, modified_granted, not_asked, ask_load, ask_store, ask_inv, stranger_plain, stranger_in, sharer_plain, sharer_replied, owner_plain, owner_replied, owner_shared, owner_out, owner_out_replied, owner_in, owner_in_replied, TileOk, ok, Sees, asked_owner, requester, bystander, owing, storer, cleared_out, HomeOk, idle_ok, load_out, load_back, owner_ok, acks_ok, store_out, store_back, At, at, All, Inv, inv, Holds, fine_refused, fine}
 use Rattle.protocol.proofs.Tests.{false_true, clash, at_or_not, if_true, everywhere, there}
@@ -265,8 +265,8 @@ home_settled {n} i len (acks_ok {owed} cl lo ne sub c) all w e =
 home_settled i len store_out all w e = clash (step_accepted i) e
 home_settled i len (store_back me) all w e = clash (ack_accepted i) e
 
-pub settled : {ws : Words} {q : ℕ → Waiting} {n : ℕ} {b : Bench} → Inv ws q n b → can_be_accepted rules (nextDelivery b) b ≡ false → Settled b
-unfolding nextDelivery to_delivery from_delivery
+pub settled : {ws : Words} {q : ℕ → Waiting} {n : ℕ} {b : Bench} → Inv ws q n b → can_be_accepted rules (next_delivery b) b ≡ false → Settled b
+unfolding next_delivery to_delivery from_delivery
 settled {ws} {q = f} {n} (inv {h} {l} {k} {mem} {out} {back} {ts} len hok all) refusal =
     go (first_of (λ t. not (is_empty (noc2 (tile_at ts t)))) (range 0 (length ts))) refl (first_of (λ t. not (is_empty (noc3 (tile_at ts t)))) (range 0 (length ts))) refl refusal
   where
@@ -286,10 +286,10 @@ settled {ws} {q = f} {n} (inv {h} {l} {k} {mem} {out} {back} {ts} len hok all) r
         ))
         z
 
--- `nextDelivery` is a delivery
-pub next_delivery : (b : Bench) → is_delivery (nextDelivery b) ≡ true
-unfolding nextDelivery
-next_delivery (bench_of h l k mem out back ts) =
+-- `next_delivery` is a delivery
+pub next_delivery_lem : (b : Bench) → is_delivery (next_delivery b) ≡ true
+unfolding next_delivery
+next_delivery_lem (bench_of h l k mem out back ts) =
     to (first_of (λ t. not (is_empty (noc2 (tile_at ts t)))) (range 0 (length ts))) (first_of (λ t. not (is_empty (noc3 (tile_at ts t)))) (range 0 (length ts))) (is_empty out) (is_empty back)
   where
     to : (o p : Option ℕ) (x y : Bool) → is_delivery (to_delivery o p x y) ≡ true

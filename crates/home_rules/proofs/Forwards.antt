@@ -17,7 +17,7 @@ use Rattle.protocol.specs.Home.{move, range, among, members}
 use Rattle.protocol.specs.Bench.{kind_of}
 use Rattle.home_rules.specs.Steps.{forward_step}
 use Rattle.protocol.specs.Answers.{sent_on}
-use Rattle.home_rules.specs.Results.{went, MemoryQueues, queues_of, put_memory, put_memory_to, put_memory_all, went_with, moved_home, targets, forward_row, enc_step, forwardsTo}
+use Rattle.home_rules.specs.Results.{went, MemoryQueues, queues_of, put_memory, put_memory_to, put_memory_all, went_with, moved_home, targets, forward_row, enc_step, forwards_to}
 
 -- the code's sum of a mask and a tile is the rules' where a word holds it
 pub add_small : (m t : ℕ) → t < 64 → add64 m t ≡ add m t
@@ -55,8 +55,8 @@ add_pos t = rw (has_none t) (omega (arith, pow_pos t))
 pub add_below : (n t : ℕ) → t < n → add 0 t < 2 ^ n
 add_below n t h = add_lt n 0 t (pow_pos n) h
 
-pub told_one : (n t : ℕ) (f : Forward) → t < n → on_noc2 t f ∷ [] ≡ forwardsTo n (add 0 t) f
-unfolding forwardsTo members
+pub told_one : (n t : ℕ) (f : Forward) → t < n → on_noc2 t f ∷ [] ≡ forwards_to n (add 0 t) f
+unfolding forwards_to members
 told_one n t f h = sym (ap (map (λ (u : ℕ). on_noc2 u f)) (only_at t 0 n (omega arith) (omega arith)))
 
 -- ---- the mask of the messages for the tiles of a mask
@@ -102,8 +102,8 @@ module _ (f : Forward) where
           rw (lt-ltb i 64 (omega arith)) (has_add_other (mask m (suc i) k) i t n ∙ ih n)
       go false p false e ih = ih (eqb-false i t e)
 
-  pub told_targets : (n m : ℕ) → n ≤ 64 → m < 2 ^ n → targets (forwardsTo n m f) ≡ m
-  unfolding forwardsTo members mask
+  pub told_targets : (n m : ℕ) → n ≤ 64 → m < 2 ^ n → targets (forwards_to n m f) ≡ m
+  unfolding forwards_to members mask
   told_targets n m s h = ext n (mask m 0 n) m (bounded n m 0 n s (omega arith)) h (λ t l. inside m 0 n t (omega arith) (omega arith) (omega arith))
 
   file_each : (us : List ℕ) (q : MemoryQueues) → put_memory_all (map (λ u. on_noc2 u f) us) (some q) ≡ some q
@@ -111,14 +111,14 @@ module _ (f : Forward) where
   file_each [] q = refl
   file_each (u ∷ us) q = file_each us q
 
-  pub file_told : (n m : ℕ) (q : MemoryQueues) → put_memory_all (forwardsTo n m f) (some q) ≡ some q
-  unfolding forwardsTo
+  pub file_told : (n m : ℕ) (q : MemoryQueues) → put_memory_all (forwards_to n m f) (some q) ≡ some q
+  unfolding forwards_to
   file_told n m q = file_each (members m n) q
 
   -- ---- the numbers of a result that sends to the tiles of a mask
   pub told_step : (n m : ℕ) → n ≤ 64 → 0 < m → m < 2 ^ n → (x : HomeBlock) (h : Home) (l k : ℕ) (mem : Words) (out : Queue ToMemory) (back : Queue FromMemory)
-      → enc_step n x (went h l k mem out back (forwardsTo n m f)) ≡ forward_step (enc_home n h l k mem out back) m (enc_forward f)
-  unfolding forwardsTo enc_step forward_step kind_of sent_on forward_row targets
+      → enc_step n x (went h l k mem out back (forwards_to n m f)) ≡ forward_step (enc_home n h l k mem out back) m (enc_forward f)
+  unfolding forwards_to enc_step forward_step kind_of sent_on forward_row targets
   told_step n m s p b x h l k mem out back = go (members m n) refl
     where
       go : (us : List ℕ) → members m n ≡ us → enc_step n x (went h l k mem out back (map (λ u. on_noc2 u f) us)) ≡ forward_step (enc_home n h l k mem out back) m (enc_forward f)
@@ -130,8 +130,8 @@ module _ (f : Forward) where
           (sym (ap (λ (vs : List ℕ). targets (map (λ v. on_noc2 v f) vs)) e) ∙ told_targets n m s b)
 
   pub told_moved : (n m : ℕ) → n ≤ 64 → 0 < m → m < 2 ^ n → (x : HomeBlock) (h : Home) (l k : ℕ) (mem : Words) (out : Queue ToMemory) (back : Queue FromMemory)
-      → enc_step n x (moved_home (move h (forwardsTo n m f)) l k mem out back) ≡ forward_step (enc_home n h l k mem out back) m (enc_forward f)
+      → enc_step n x (moved_home (move h (forwards_to n m f)) l k mem out back) ≡ forward_step (enc_home n h l k mem out back) m (enc_forward f)
   unfolding moved_home went_with
   told_moved n m s p b x h l k mem out back =
-      ap (λ q. enc_step n x (went_with (forwardsTo n m f) q h l k mem)) (file_told n m (queues_of out back))
+      ap (λ q. enc_step n x (went_with (forwards_to n m f) q h l k mem)) (file_told n m (queues_of out back))
       ∙ told_step n m s p b x h l k mem out back

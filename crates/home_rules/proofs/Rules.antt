@@ -24,7 +24,7 @@ use Rattle.home_rules.specs.Steps as numbers
 use Rattle.home_rules.specs.Steps.{refused_step, forward_step, numbers_in, with_numbers, with_words, with_outgoing, words_from, outgoing_put, forward_of, line_after_move, move_applied, with_memory}
 use Rattle.protocol.specs.Answers.{sent_on}
 use Rattle.layout.specs.Range.{DirectoryIn, LineIn, HomeIn}
-use Rattle.home_rules.specs.Results.{put_memory, put_memory_to, put_memory_all, went_with, moved_home, fitting_home, taken_home, written_home, accepted_home, served_memory, stepped_home, acked_front, acked_home, evicted_home, targets, forward_row, enc_step, enc_front, forwardsTo}
+use Rattle.home_rules.specs.Results.{put_memory, put_memory_to, put_memory_all, went_with, moved_home, fitting_home, taken_home, written_home, accepted_home, served_memory, stepped_home, acked_front, acked_home, evicted_home, targets, forward_row, enc_step, enc_front, forwards_to}
 use Rattle.home_rules.proofs.Forwards.{add_small, told_moved}
 
 -- the first row of a queue is its front
@@ -73,7 +73,7 @@ module _ (x : HomeBlock) (n l k : ℕ) (mem : Words) (out : Queue ToMemory) (bac
   clear_sharers : n ≤ 64 → (d : Bool) (m u : ℕ) (q : Clearing) → 0 < u → u < 2 ^ n
       → move_applied X us (moves.forward_move (moves.with_home c (phase_number (awaiting_acks d kept m u q)) 1 (flag d) 1 m (requester (awaiting_acks d kept m u q)) u) 0 u 18 0 0)
       ≡ enc_step n x (moved_home (rules.invalidate n d kept m u q) c.last c.marks mem out back)
-  unfolding move_applied line_after_move with_numbers with_words words_from outgoing_put forward_of moves.forward_move moves.with_home forward_step enc_home line_of enc_line directory_number holders owed_tiles enc_forward forwardsTo rules.invalidate rules.invalidate_to
+  unfolding move_applied line_after_move with_numbers with_words words_from outgoing_put forward_of moves.forward_move moves.with_home forward_step enc_home line_of enc_line directory_number holders owed_tiles enc_forward forwards_to rules.invalidate rules.invalidate_to
   clear_sharers s d m u q p b = sym (told_moved inv_fwd n u s p b x (awaiting_acks d kept m u q) c.last c.marks mem out back)
 
 module _ (n : ℕ) (us : Words) where

@@ -14,7 +14,7 @@ use Rattle.protocol.specs.Parts.{Words, Queue, Access, reading, writing, shared,
 use Rattle.protocol.specs.Home.{Move, move, grant_shared, grant, asked_for, ask_owner, invalidate_to, invalidate, leave, serve, write_back, load_ack_s, load_ack_i, store_ack, cleared, inv_ack, acknowledged, evict_line, ack_dirty, ack_words, grant_message, granted_line}
 use Rattle.protocol.specs.Bench.{push, front, rest}
 use Rattle.layout.specs.Range.{LineIn, ClearingIn, HomeIn}
-use Rattle.home_rules.specs.Results.{home_refused, MemoryQueues, queues_of, put_memory, put_memory_to, put_memory_all, went_with, moved_home, fitting_home, taken_home, written_home, accepted_home, served_memory, stepped_home, acked_front, acked_home, evicted_home, forwardsTo, Sends, refuses, silent, sends_forwards, sends_to_memory, sends_from_memory}
+use Rattle.home_rules.specs.Results.{home_refused, MemoryQueues, queues_of, put_memory, put_memory_to, put_memory_all, went_with, moved_home, fitting_home, taken_home, written_home, accepted_home, served_memory, stepped_home, acked_front, acked_home, evicted_home, forwards_to, Sends, refuses, silent, sends_forwards, sends_to_memory, sends_from_memory}
 use Rattle.home_rules.proofs.Forwards.{add_pos, add_below, told_one, file_told}
 
 module _ (n : ℕ) where
@@ -58,8 +58,8 @@ module _ (n l k : ℕ) (mem : Words) (out : Queue ToMemory) (back : Queue FromMe
   asks d ws o c i = one_tile (awaiting_owner d ws o c) o (asked_for c) i
 
   clears : (d : Bool) (ws : Words) (m u : ℕ) (c : Clearing) → 0 < u → u < 2 ^ n → Sends n (moved_home (invalidate n d ws m u c) l k mem out back)
-  unfolding invalidate invalidate_to moved_home forwardsTo went_with
-  clears d ws m u c p b = subst (λ (q : Option MemoryQueues). Sends n (went_with (forwardsTo n u inv_fwd) q (awaiting_acks d ws m u c) l k mem)) (sym (file_told inv_fwd n u (queues_of out back))) (sends_forwards u inv_fwd p b refl)
+  unfolding invalidate invalidate_to moved_home forwards_to went_with
+  clears d ws m u c p b = subst (λ (q : Option MemoryQueues). Sends n (went_with (forwards_to n u inv_fwd) q (awaiting_acks d ws m u c) l k mem)) (sym (file_told inv_fwd n u (queues_of out back))) (sends_forwards u inv_fwd p b refl)
 
   leaves : (d : Bool) (ws : Words) → Sends n (moved_home (leave d ws) l k mem out back)
   unfolding leave moved_home put_memory_all put_memory_to put_memory went_with

@@ -147,13 +147,13 @@ enc_front f none = no_row
 enc_front f (some a) = f a
 
 -- the message f for every tile of a mask, of n tiles, in rising order
-unfoldable pub forwardsTo : ℕ → ℕ → Forward → List Message
-forwardsTo n m f = map (λ t. on_noc2 t f) (members m n)
+unfoldable pub forwards_to : ℕ → ℕ → Forward → List Message
+forwards_to n m f = map (λ t. on_noc2 t f) (members m n)
 
 -- What a result sends: nothing; a message for every tile of a mask that is not empty; or one message to or from memory.
 pub data Sends (n : ℕ) : HomeResult → Type 0 where
   refuses : (r : ℕ) → 0 < r → Sends n (home_refused r)
   silent : {h : Home} {l k : ℕ} {mem : Words} {out : Queue ToMemory} {back : Queue FromMemory} → Sends n (went h l k mem out back [])
-  sends_forwards : {h : Home} {l k : ℕ} {mem : Words} {out : Queue ToMemory} {back : Queue FromMemory} → (m : ℕ) (f : Forward) → 0 < m → m < 2 ^ n → {ms : List Message} → ms ≡ forwardsTo n m f → Sends n (went h l k mem out back ms)
+  sends_forwards : {h : Home} {l k : ℕ} {mem : Words} {out : Queue ToMemory} {back : Queue FromMemory} → (m : ℕ) (f : Forward) → 0 < m → m < 2 ^ n → {ms : List Message} → ms ≡ forwards_to n m f → Sends n (went h l k mem out back ms)
   sends_to_memory : {h : Home} {l k : ℕ} {mem : Words} {out : Queue ToMemory} {back : Queue FromMemory} {m : ToMemory} → Sends n (went h l k mem out back (to_memory m ∷ []))
   sends_from_memory : {h : Home} {l k : ℕ} {mem : Words} {out : Queue ToMemory} {back : Queue FromMemory} {m : FromMemory} → Sends n (went h l k mem out back (from_memory m ∷ []))

@@ -20,7 +20,7 @@ use Rattle.layout.specs.Encode.{enc_forward, enc_home, encode}
 use Rattle.protocol.specs.Answers.{sent_on, sent_to}
 use Rattle.home_rules.specs.declared.moves.HomeStep.{HomeStep}
 use Rattle.home_rules.specs.Steps.{refused_step, forward_step}
-use Rattle.home_rules.specs.Results.{HomeResult, went, spread, forward_all, forward_to, forward_one, enc_step, targets, forward_row, forwardsTo, Sends, refuses, silent, sends_forwards, sends_to_memory, sends_from_memory}
+use Rattle.home_rules.specs.Results.{HomeResult, went, spread, forward_all, forward_to, forward_one, enc_step, targets, forward_row, forwards_to, Sends, refuses, silent, sends_forwards, sends_to_memory, sends_from_memory}
 use Rattle.home_rules.proofs.Forwards.{add_small, told_targets, told_step}
 use Rattle.home_words.specs.Forwards.{forward_put_at, forward_put_all}
 use Rattle.calls.proofs.Laid.{Laid, write_home, laid_encode}
@@ -49,13 +49,13 @@ module _ (f : Forward) where
       go true ih = ap (λ (z : ℕ). add z i) ih ∙ sym (add_small _ i (omega arith))
       go false ih = ih
 
-  to_told : (n m : ℕ) → n ≤ 64 → m < 2 ^ n → sent_to (forwardsTo n m f) ≡ m
-  unfolding forwardsTo members
+  to_told : (n m : ℕ) → n ≤ 64 → m < 2 ^ n → sent_to (forwards_to n m f) ≡ m
+  unfolding forwards_to members
   to_told n m s b = to_each m 0 n (omega arith) ∙ told_targets f n m s b
 
   pub forward_told : (n m : ℕ) (h : Home) (l k : ℕ) (mem : Words) (out : Queue ToMemory) (back : Queue FromMemory) (ts : List Tile) →
-      forward_all (forwardsTo n m f) (some (bench_of h l k mem out back ts)) ≡ Option.map (λ (us : List Tile). bench_of h l k mem out back us) (tell_tiles m f 0 n ts)
-  unfolding forwardsTo members
+      forward_all (forwards_to n m f) (some (bench_of h l k mem out back ts)) ≡ Option.map (λ (us : List Tile). bench_of h l k mem out back us) (tell_tiles m f 0 n ts)
+  unfolding forwards_to members
   forward_told n m h l k mem out back ts = sent_tiles h l k mem out back m f n 0 ts
 
 -- what committing a step gives, with m the words after it
@@ -117,7 +117,7 @@ module _ (n : ℕ) (small : n ≤ 64) (B : HomeBlock) (s : HomeStep) (v : ℕ) (
           to = y ∙ sym to_none;
         }
 
-    telling : (m : ℕ) (f : Forward) → 0 < m → m < 2 ^ n → (ms : List Message) → ms ≡ forwardsTo n m f → (h : Home) (t k : ℕ) (mem : Words) (out : Queue ToMemory) (back : Queue FromMemory) → s ≡ enc_step n B (went h t k mem out back ms) →
+    telling : (m : ℕ) (f : Forward) → 0 < m → m < 2 ^ n → (ms : List Message) → ms ≡ forwards_to n m f → (h : Home) (t k : ℕ) (mem : Words) (out : Queue ToMemory) (back : Queue FromMemory) → s ≡ enc_step n B (went h t k mem out back ms) →
         all_room ts 0 s.to n ≡ true → Finished s v (went h t k mem out back ms) ts r after
     unfolding spread outcome forward_step enc_step
     telling m f p b ms q h t k mem out back is rm =

@@ -8,7 +8,7 @@ use Rattle.calls.specs.Calls.{answer_to, after_call}
 use Rattle.job_format.specs.declared.calls.JobCall.{JobCall}
 use Rattle.job_format.specs.Job.{call_numbers_of}
 use Rattle.job_rules.specs.Calls.{bench_call}
-use Rattle.job_rules.specs.Buffers.{AllPlaced, buffers_after, placesAfter}
+use Rattle.job_rules.specs.Buffers.{AllPlaced, buffers_after, places_after}
 use Rattle.job_rules.specs.AnswerLines.{answer_lines}
 use Rattle.job_rules.specs.Listing.{call_lines}
 use Rattle.c_answers.specs.Reports.{reported}
@@ -20,7 +20,7 @@ module _ (line number : ℕ) (l t : List ℕ) (p : ℕ) (out : List ℕ) where
       (r ≡ (answer_to (bench_call (call_numbers_of j)) l).refusal)
       × ((l' ≡ after_call (bench_call (call_numbers_of j)) l)
       × ((t' ≡ buffers_after t p (call_lines line number (bench_call (call_numbers_of j)) l))
-      × (out' ≡ reported out (placesAfter t p (call_lines line number (bench_call (call_numbers_of j)) l) ∷ j.next ∷ []))))
+      × (out' ≡ reported out (places_after t p (call_lines line number (bench_call (call_numbers_of j)) l) ∷ j.next ∷ []))))
 
   lines : {a : Answer} {l' : List ℕ} (c : Call) → a ≡ answer_to c l → l' ≡ after_call c l → answer_lines line number a l' ≡ call_lines line number c l
   unfolding call_lines
@@ -36,7 +36,7 @@ module _ (line number : ℕ) (l t : List ℕ) (p : ℕ) (out : List ℕ) where
           words,
           (
             put.buffer ∙ ap (λ (x : List (List ℕ)). buffers_after t p x) same,
-            say ∙ ap (λ (x : ℕ). reported out (x ∷ j.next ∷ [])) (put.place ∙ ap (λ (x : List (List ℕ)). placesAfter t p x) same),
+            say ∙ ap (λ (x : ℕ). reported out (x ∷ j.next ∷ [])) (put.place ∙ ap (λ (x : List (List ℕ)). places_after t p x) same),
           ),
         ),
       )

@@ -5,7 +5,7 @@
 ghost use Rattle.std.specs.Prelude.{◌≡◌, ◌∷◌, []};
 ghost use Rattle.calls.specs.Calls.{answer_to, after_call};
 ghost use Rattle.job_format.specs.Job.{job_call_at};
-ghost use Rattle.job_rules.specs.Buffers.{buffers_after, placesAfter};
+ghost use Rattle.job_rules.specs.Buffers.{buffers_after, places_after};
 ghost use Rattle.job_rules.specs.Listing.{call_lines};
 ghost use Rattle.c_answers.specs.Reports.{reported};
 ghost use Rattle.job_exports.specs.Arguments.{call_in};
@@ -27,7 +27,7 @@ pub extern "C" fn duzh_run_call(
     ensures refusal { result ≡ (answer_to (call_in job.now at) words.old).refusal }
     ensures after { words.new ≡ after_call (call_in job.now at) words.old }
     ensures text { text.new ≡ buffers_after text.old from (call_lines line number (call_in job.now at) words.old) }
-    ensures report { out.new ≡ reported out.old (placesAfter text.old from (call_lines line number (call_in job.now at) words.old) ∷ (job_call_at job.now at).next ∷ []) }
+    ensures report { out.new ≡ reported out.old (places_after text.old from (call_lines line number (call_in job.now at) words.old) ∷ (job_call_at job.now at).next ∷ []) }
 {
     let call = job_format::call_at(job, at);
     let answer = jobs::run_call(words, call);

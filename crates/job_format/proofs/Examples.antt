@@ -84,9 +84,9 @@ unfolding check_job check_fields field_refusal first_failed is_tag value_length 
 refused = (refl, refl, refl, refl, refl, refl, refl, refl, refl, refl)
 
 -- where two tests fail: 20 head before 21, 21 before 22, 22 before 20 value, 20 value before 23, 23 before 24; and the first bad field
-first-counts :
+first_counts :
     (check_job (4 ∷ []) ≡ job_refused 20 0) × (check_job (4 ∷ 0 ∷ 9 ∷ []) ≡ job_refused 21 0) × (check_job (1 ∷ 0 ∷ 2 ∷ []) ≡ job_refused 22 0)
     × (check_job (2 ∷ 0 ∷ 6 ∷ []) ≡ job_refused 20 0) × (check_job (field 2 (0 ∷ 0 ∷ 0 ∷ 0 ∷ 0 ∷ 1 ∷ [])) ≡ job_refused 23 0)
     × (check_job (field 1 (0 ∷ []) ++ (4 ∷ [])) ≡ job_refused 24 0)
 unfolding check_job check_fields field_refusal first_failed is_tag value_length tag_in_place good_value big_at check_end
-first-counts = (refl, refl, refl, refl, refl, refl)
+first_counts = (refl, refl, refl, refl, refl, refl)

@@ -19,22 +19,22 @@ use Rattle.flits.specs.Table.{row_of, header_extra}
 use Rattle.flits.specs.Writing.{write_refusal, flits_of, written_of, buffer_of, Written}
 use Rattle.message_flits.specs.Fields.{message_fields, message_data}
 use Rattle.flits.proofs.Laws.{flits_length, write_fits}
-use Rattle.job_rules.specs.Buffers.{buffers_after, placesAfter, AllPlaced}
+use Rattle.job_rules.specs.Buffers.{buffers_after, places_after, AllPlaced}
 use Rattle.job_rules.specs.AnswerLines.{sent_flits, sent_line, sent_lines}
 
 -- a line, then lines
 pub placed_cons : (l m n : List ℕ) (i j k : ℕ) (v : List ℕ) (vs : List (List ℕ)) → Placed l m i j v → AllPlaced m n j k vs → AllPlaced l n i k (v ∷ vs)
-unfolding buffers_after placesAfter
+unfolding buffers_after places_after
 placed_cons l m n i j k v vs p q = record { place = rw (← p.buffer, ← p.place) q.place; buffer = rw (← p.buffer, ← p.place) q.buffer }
 
 -- the lines from the i-th message on, put where the loop stands, end where all of them end
 pub record Rest (line : ℕ) (l : List ℕ) (ps : List BenchQueue) (before : List ℕ) (at : ℕ) (b : List ℕ) (p i : ℕ) : Type 0 where
-  pub place : placesAfter b p (sent_lines line l (drop i ps)) ≡ placesAfter before at (sent_lines line l ps)
+  pub place : places_after b p (sent_lines line l (drop i ps)) ≡ places_after before at (sent_lines line l ps)
   pub buffer : buffers_after b p (sent_lines line l (drop i ps)) ≡ buffers_after before at (sent_lines line l ps)
 
 pub rest_step : (line : ℕ) (l : List ℕ) (ps : List BenchQueue) (before : List ℕ) (at : ℕ) (b b' : List ℕ) (p p' i : ℕ) → i < length ps
     → Rest line l ps before at b p i → Placed b b' p p' (sent_line line (sent_at l (get_or ps i no_queue))) → Rest line l ps before at b' p' (i + 1)
-unfolding buffers_after placesAfter sent_lines
+unfolding buffers_after places_after sent_lines
 rest_step line l ps before at b b' p p' i h r q =
     record {
       place = rw (add-one, q.place, q.buffer) (rw (drop-cons ps i no_queue h) at r.place);
@@ -43,7 +43,7 @@ rest_step line l ps before at b b' p p' i h r q =
 
 pub rest_done : (line : ℕ) (l : List ℕ) (ps : List BenchQueue) (before : List ℕ) (at : ℕ) (b : List ℕ) (p i : ℕ) → i ≡ length ps
     → Rest line l ps before at b p i → AllPlaced before b at p (sent_lines line l ps)
-unfolding buffers_after placesAfter sent_lines
+unfolding buffers_after places_after sent_lines
 rest_done line l ps before at b p i e r =
     record { place = rw (e, drop-length ps) at r.place; buffer = rw (e, drop-length ps) at r.buffer }
 

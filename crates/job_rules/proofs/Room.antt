@@ -7,7 +7,7 @@ use native.Mathlib.Omega.{arith}
 use borrow.Author.Tests.{eqb-true, le-leb}
 use lib.Dec.{eqb, leb}
 use lib.ListN.{length, length-append}
-use Rattle.lists.specs.Over.{bufferAfter, placeAfter, Placed, Put}
+use Rattle.lists.specs.Over.{buffer_after, place_after, Placed, Put}
 use Rattle.lists.proofs.OverLaws.{over_nil, placed_put, placed_length, join}
 use Rattle.protocol.specs.Home.{members}
 use Rattle.coherence.proofs.Falls.{members_length}
@@ -21,7 +21,7 @@ use Rattle.flits.specs.Writing.{write_refusal, flits_of}
 use Rattle.listing.specs.Lines.{call_line}
 use Rattle.listing.proofs.DigitLaws.{decimal_le}
 use Rattle.listing.proofs.LineLaws.{call_length, message_length}
-use Rattle.job_rules.specs.Buffers.{buffers_after, placesAfter}
+use Rattle.job_rules.specs.Buffers.{buffers_after, places_after}
 use Rattle.job_rules.specs.AnswerLines.{sent_flits, sent_line, sent_lines, answer_lines}
 use Rattle.job_rules.specs.Room.{bytes_of, most_call_bytes, FittedStatement, RoomStatement}
 use Rattle.flits.proofs.Laws.{flits_length}
@@ -29,29 +29,29 @@ use Rattle.job_rules.proofs.Buffers.{fits}
 
 -- ---- lines that fit
 
-one : (l : List ℕ) (i : ℕ) (v : List ℕ) → Placed l (bufferAfter l i v) i (placeAfter l i v) v
+one : (l : List ℕ) (i : ℕ) (v : List ℕ) → Placed l (buffer_after l i v) i (place_after l i v) v
 one l i v = record { place = refl; buffer = refl }
 
-before : (l : List ℕ) (i : ℕ) (v : List ℕ) → placeAfter l i v ≤ length l → i ≤ length l
-before l i v h = let p = placed_put l (bufferAfter l i v) i (placeAfter l i v) v (one l i v) h in omega (arith, p.place)
+before : (l : List ℕ) (i : ℕ) (v : List ℕ) → place_after l i v ≤ length l → i ≤ length l
+before l i v h = let p = placed_put l (buffer_after l i v) i (place_after l i v) v (one l i v) h in omega (arith, p.place)
 
 -- a last place within the buffer means that each place is
-inside : (l : List ℕ) (i : ℕ) (vs : List (List ℕ)) → placesAfter l i vs ≤ length l → i ≤ length l
-unfolding placesAfter
+inside : (l : List ℕ) (i : ℕ) (vs : List (List ℕ)) → places_after l i vs ≤ length l → i ≤ length l
+unfolding places_after
 inside l i [] h = h
 inside l i (v ∷ vs) h =
-    let n : length (bufferAfter l i v) ≡ length l = placed_length l (bufferAfter l i v) i (placeAfter l i v) v (one l i v) in
-    before l i v (rw n at (inside (bufferAfter l i v) (placeAfter l i v) vs (rw n h)))
+    let n : length (buffer_after l i v) ≡ length l = placed_length l (buffer_after l i v) i (place_after l i v) v (one l i v) in
+    before l i v (rw n at (inside (buffer_after l i v) (place_after l i v) vs (rw n h)))
 
-fitted_at : (vs : List (List ℕ)) (l : List ℕ) (i : ℕ) → placesAfter l i vs ≤ length l → Put l (buffers_after l i vs) i (placesAfter l i vs) (bytes_of vs)
-unfolding placesAfter buffers_after bytes_of
+fitted_at : (vs : List (List ℕ)) (l : List ℕ) (i : ℕ) → places_after l i vs ≤ length l → Put l (buffers_after l i vs) i (places_after l i vs) (bytes_of vs)
+unfolding places_after buffers_after bytes_of
 fitted_at [] l i h = record { place = omega arith; buffer = sym (over_nil l i) }
 fitted_at (v ∷ vs) l i h =
-    let n : length (bufferAfter l i v) ≡ length l = placed_length l (bufferAfter l i v) i (placeAfter l i v) v (one l i v) in
-    let k : placeAfter l i v ≤ length l = rw n at (inside (bufferAfter l i v) (placeAfter l i v) vs (rw n h)) in
-    join l (bufferAfter l i v) (buffers_after (bufferAfter l i v) (placeAfter l i v) vs) i (placeAfter l i v) (placesAfter (bufferAfter l i v) (placeAfter l i v) vs) v (bytes_of vs) (before l i v k)
-    (placed_put l (bufferAfter l i v) i (placeAfter l i v) v (one l i v) k)
-    (fitted_at vs (bufferAfter l i v) (placeAfter l i v) (rw n h))
+    let n : length (buffer_after l i v) ≡ length l = placed_length l (buffer_after l i v) i (place_after l i v) v (one l i v) in
+    let k : place_after l i v ≤ length l = rw n at (inside (buffer_after l i v) (place_after l i v) vs (rw n h)) in
+    join l (buffer_after l i v) (buffers_after (buffer_after l i v) (place_after l i v) vs) i (place_after l i v) (places_after (buffer_after l i v) (place_after l i v) vs) v (bytes_of vs) (before l i v k)
+    (placed_put l (buffer_after l i v) i (place_after l i v) v (one l i v) k)
+    (fitted_at vs (buffer_after l i v) (place_after l i v) (rw n h))
 
 pub fitted : FittedStatement
 fitted l n i k vs p h = rw (p.place, p.buffer) (fitted_at vs l i (rw p.place at h))
@@ -104,19 +104,19 @@ unfolding answer_lines bytes_of
 answer_le line n a l =
     omega (arith, length-append (call_line n a.refusal a.kind a.value) (bytes_of (sent_lines line l (sent_queues a.sent a.tiles))), call_le n a.refusal a.kind a.value, lines_le line l (sent_queues a.sent a.tiles), places_le a.sent a.tiles)
 
-placed_at : (l : List ℕ) (i : ℕ) (v : List ℕ) → i + length v ≤ length l → placeAfter l i v ≡ i + length v
-unfolding placeAfter
+placed_at : (l : List ℕ) (i : ℕ) (v : List ℕ) → i + length v ≤ length l → place_after l i v ≡ i + length v
+unfolding place_after
 placed_at l i v h = rw (le-leb (i + length v) (length l) h)
 
 -- lines for which there is room end within the buffer
-ends : (vs : List (List ℕ)) (l : List ℕ) (i : ℕ) → i + length (bytes_of vs) ≤ length l → placesAfter l i vs ≤ length l
-unfolding placesAfter bytes_of
+ends : (vs : List (List ℕ)) (l : List ℕ) (i : ℕ) → i + length (bytes_of vs) ≤ length l → places_after l i vs ≤ length l
+unfolding places_after bytes_of
 ends [] l i h = omega arith
 ends (v ∷ vs) l i h =
-    let n : length (bufferAfter l i v) ≡ length l = placed_length l (bufferAfter l i v) i (placeAfter l i v) v (record { place = refl; buffer = refl }) in
+    let n : length (buffer_after l i v) ≡ length l = placed_length l (buffer_after l i v) i (place_after l i v) v (record { place = refl; buffer = refl }) in
     let s = length-append v (bytes_of vs) in
-    let p : placeAfter l i v ≡ i + length v = placed_at l i v (omega arith) in
-    rw n at (ends vs (bufferAfter l i v) (placeAfter l i v) (rw n (rw p (omega arith))))
+    let p : place_after l i v ≡ i + length v = placed_at l i v (omega arith) in
+    rw n at (ends vs (buffer_after l i v) (place_after l i v) (rw n (rw p (omega arith))))
 
 pub room : RoomStatement
 room line n a w b b' i k p h = fitted b b' i k (answer_lines line n a w) p (rw p.place (ends (answer_lines line n a w) b i (omega (arith, answer_le line n a w))))

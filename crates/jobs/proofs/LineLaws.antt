@@ -13,7 +13,7 @@ use Rattle.job_rules.specs.declared.states.Run.{Run}
 use Rattle.job_rules.specs.RunStates.{ended, run_of, PutsPiece}
 
 pub placed_at : (b b' : List ℕ) (p k : ℕ) (v : List ℕ) → p + length v ≤ length b → Placed b b' p k v → Put b b' p k v
-unfolding Rattle.lists.specs.Over.placeAfter
+unfolding Rattle.lists.specs.Over.place_after
 placed_at b b' p k v h x = placed_put b b' p k v x (go x.place)
   where
     go : k ≡ cond (leb (p + length v) (length b)) (p + length v) (length b + 1) → k ≤ length b

@@ -13,12 +13,12 @@ call_lines_lem : (call_line 1 0 3 0 ≡ ascii "1 0 3 0\n") × (call_line 5 0 1 7
 unfolding call_line decimal_from digits digit_byte
 call_lines_lem = (refl, refl, refl)
 
-message-lines :
+message_lines :
     (message_line (0x87C000 ∷ 0x0000800010400400 ∷ 0 ∷ []) ≡ ascii "> 000000000087C000 0000800010400400 0000000000000000\n")
     × (message_line (0x02074028 ∷ 7 ∷ replicate 7 0)
     ≡ ascii "> 0000000002074028 0000000000000007 0000000000000000 0000000000000000 0000000000000000 0000000000000000 0000000000000000 0000000000000000 0000000000000000\n")
 unfolding message_line flits_text digits digit_byte
-message-lines = (refl, refl)
+message_lines = (refl, refl)
 
 last_line : end_line 5 ≡ ascii "end 5\n"
 unfolding end_line decimal_from digit_byte

@@ -10,7 +10,7 @@ use lib.Dec.{leb}
 use lib.ListN.{length, set, take, drop, length-append, length-take, length-drop, length-set, take-append-drop}
 use lib.Seq.{drop-append-add, drop-drop, drop-cons, length-take-le, take_at, drop_at, set_split, take-set-le, drop-set-lt, get_or-set_same}
 use borrow.Author.Tests.{le-leb, lt-leb, leb-true, leb-false}
-use Rattle.lists.specs.Over.{over, bufferAfter, placeAfter, Placed, Put}
+use Rattle.lists.specs.Over.{over, buffer_after, place_after, Placed, Put}
 
 -- the room test, without a sum that could wrap
 pub room_test : (len at n : ℕ) → at ≤ len → leb n (len - at) ≡ leb (at + n) len
@@ -83,11 +83,11 @@ four_put l m n i j k a b c d h p q = subst (λ (vs : List ℕ). Put l n i k vs) 
 
 -- put where it fits, and where it does not
 pub fits : (l m : List ℕ) (i j : ℕ) (vs : List ℕ) → i + length vs ≤ length l → Put l m i j vs → Placed l m i j vs
-unfolding bufferAfter placeAfter
+unfolding buffer_after place_after
 fits l m i j vs h p = record { place = rw (le-leb (i + length vs) (length l) h) p.place; buffer = rw (le-leb (i + length vs) (length l) h) p.buffer }
 
 pub does_not_fit : (l : List ℕ) (i : ℕ) (vs : List ℕ) → length l < i + length vs → Placed l l i (length l + 1) vs
-unfolding bufferAfter placeAfter
+unfolding buffer_after place_after
 does_not_fit l i vs h = record { place = rw (lt-leb (i + length vs) (length l) h); buffer = rw (lt-leb (i + length vs) (length l) h) }
 
 -- the same by the answer of a room test for n elements
@@ -102,7 +102,7 @@ without_room l i n vs s e t = does_not_fit l i vs (rw s at (leb-false (i + n) (l
 
 -- ---- several puts one after the other: if the last place lies within the buffer, all of them fitted
 pub placed_put : (l m : List ℕ) (i j : ℕ) (vs : List ℕ) → Placed l m i j vs → j ≤ length l → Put l m i j vs
-unfolding bufferAfter placeAfter
+unfolding buffer_after place_after
 placed_put l m i j vs p h = go (leb (i + length vs) (length l)) refl
   where
     go : (b : Bool) → leb (i + length vs) (length l) ≡ b → Put l m i j vs
@@ -110,7 +110,7 @@ placed_put l m i j vs p h = go (leb (i + length vs) (length l)) refl
     go false e = absurd (let q : j ≡ length l + 1 = rw e at p.place in omega arith)
 
 pub placed_length : (l m : List ℕ) (i j : ℕ) (vs : List ℕ) → Placed l m i j vs → length m ≡ length l
-unfolding bufferAfter
+unfolding buffer_after
 placed_length l m i j vs p = go (leb (i + length vs) (length l)) refl
   where
     go : (b : Bool) → leb (i + length vs) (length l) ≡ b → length m ≡ length l

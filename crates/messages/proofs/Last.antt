@@ -16,7 +16,7 @@ use Rattle.protocol.specs.Bench.{fresh_tile, tile_at, push, on_tile1, on_tile2, 
 use Rattle.protocol.specs.Answers.{sent_on, sent_to}
 use Rattle.messages.specs.declared.queues.BenchQueue.{BenchQueue}
 use Rattle.messages.specs.Queues.{bench_queue, queue_of_each, noc3_then_noc1, sent_queues}
-use Rattle.messages.specs.LastMessages.{last_of, last_message_on, queue_of_message, all_there, sentMessages, There}
+use Rattle.messages.specs.LastMessages.{last_of, last_message_on, queue_of_message, all_there, sent_messages, There}
 use Rattle.messages.proofs.Rising.{Rising, mask_of, members_mask}
 
 abbrev pub tiles_of : Bench → List Tile
@@ -197,6 +197,6 @@ unfolding all_there
 given_all [] = refl
 given_all (m ∷ ms) = ap (λ (l : List Message). m ∷ l) (given_all ms)
 
-pub there_messages : (ms : List Message) (b : Bench) → There ms b → sentMessages (sent_on ms) (sent_to ms) b ≡ ms
-unfolding sentMessages
+pub there_messages : (ms : List Message) (b : Bench) → There ms b → sent_messages (sent_on ms) (sent_to ms) b ≡ ms
+unfolding sent_messages
 there_messages ms b e = ap all_there e.last ∙ given_all ms

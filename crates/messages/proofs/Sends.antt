@@ -14,7 +14,7 @@ use Rattle.protocol.specs.Tile.{load_at, store_at, evict_at, Received, misfit, f
 use Rattle.protocol.specs.Home.{Move, move, members, grant_shared, grant, ask_owner, invalidate_to, invalidate, leave, serve, write_back, load_ack_s, load_ack_i, store_ack, cleared, inv_ack, acknowledged, evict_line}
 use Rattle.protocol.specs.Bench.{fresh_tile, tile_at, front, rest, send, outcome, posted, kind_of, settle, at_tile, at_word, noc1, noc3, pop_noc1, pop_noc3, served, take_front, take_chosen, taking_on, written_back, fitted, accept_reply, from_tile_on, memory_serves, memory_step_on, accept_ack, memory_ack_on, home_eviction_on, step, arbitrate}
 use Rattle.protocol.specs.Answers.{sent_on, sent_to}
-use Rattle.messages.specs.LastMessages.{sentMessages, There, OwnerIn, HomeNames, NamesTiles}
+use Rattle.messages.specs.LastMessages.{sent_messages, There, OwnerIn, HomeNames, NamesTiles}
 use Rattle.messages.proofs.Rising.{members_rising}
 use Rattle.messages.proofs.Last.{tiles_of, Shape, silent, asks, replies, writes_back, tells, files, answers, Sent, all_sent, silent_there, there_messages}
 
@@ -302,6 +302,6 @@ pub sent_there : (c : Call) (b : Bench) → NamesTiles b → (k v : ℕ) (b' : B
 sent_there c (bench_of h l m mem out back ts) names k v b' ms e = subst Tell e (step_tells c h l m mem out back ts names.0 names.1)
 
 -- .. and so they are the messages read there, in their order.
-pub sent_messages : (c : Call) (b : Bench) → NamesTiles b → (k v : ℕ) (b' : Bench) (ms : List Message) → step c b ≡ accepted k v b' ms
-    → sentMessages (sent_on ms) (sent_to ms) b' ≡ ms
-sent_messages c b names k v b' ms e = there_messages ms b' (sent_there c b names k v b' ms e)
+pub sent_messages_lem : (c : Call) (b : Bench) → NamesTiles b → (k v : ℕ) (b' : Bench) (ms : List Message) → step c b ≡ accepted k v b' ms
+    → sent_messages (sent_on ms) (sent_to ms) b' ≡ ms
+sent_messages_lem c b names k v b' ms e = there_messages ms b' (sent_there c b names k v b' ms e)

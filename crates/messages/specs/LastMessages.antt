@@ -40,8 +40,8 @@ all_there (none ∷ ms) = all_there ms
 all_there (some m ∷ ms) = m ∷ all_there ms
 
 -- the messages of an answer: sent on s, to the tiles m
-unfoldable pub sentMessages : ℕ → ℕ → Bench → List Message
-sentMessages s m b = all_there (map (last_message_on b) (sent_queues s m))
+unfoldable pub sent_messages : ℕ → ℕ → Bench → List Message
+sent_messages s m b = all_there (map (last_message_on b) (sent_queues s m))
 
 -- The messages ms were sent on the queues that their two numbers give, in this order, and are the last on them in the bench b.
 pub record There (ms : List Message) (b : Bench) : Type 0 where

@@ -12,7 +12,7 @@ use Rattle.protocol.specs.Bench.{fresh, push, front, rest, on_tile1, send_one, s
 use Rattle.protocol.specs.Calls.{call_table, call_from, is_delivery}
 use Rattle.protocol.specs.Answers.{sent_on, sent_to, answer_of, is_accepted, has_kind, refusal, acceptance}
 use Rattle.protocol.specs.Runs.{kept, after, rules, runs, history, waits_for_by, waits_for_after, waits_for_since, waits_for}
-use Rattle.protocol.specs.Demand3.{is_waiting, waits, tiles_of, one_if, is_empty, memory_delivery, from_delivery, to_delivery, nextDelivery, Quiet, is_request, request_at_front, takes_by, takes_tile, takes_another, passes_over, passed_over, is_misfit}
+use Rattle.protocol.specs.Demand3.{is_waiting, waits, tiles_of, one_if, is_empty, memory_delivery, from_delivery, to_delivery, next_delivery, Quiet, is_request, request_at_front, takes_by, takes_tile, takes_another, passes_over, passed_over, is_misfit}
 use Rattle.protocol.specs.Order1.{holds, may_write, names, AnswersNeither}
 use Rattle.protocol.proofs.Tests.{false_true}
 
@@ -47,9 +47,9 @@ unfolding calls range is_delivery sent_on sent_to add has
 by_number = (refl, refl, refl, refl)
 
 -- tiles 1 and 2 of three ask, and wait; the next delivery is the taking, which takes tile 1 and passes tile 2 over; a guard is no request
-tile_2_passed : (map (λ t. waits t (history rules (load 1 0 ∷ load 2 0 ∷ []) (fresh 3 []))) (range 0 3) ≡ false ∷ true ∷ true ∷ []) × (nextDelivery (runs rules (load 1 0 ∷ load 2 0 ∷ []) (fresh 3 [])) ≡ taking)
+tile_2_passed : (map (λ t. waits t (history rules (load 1 0 ∷ load 2 0 ∷ []) (fresh 3 []))) (range 0 3) ≡ false ∷ true ∷ true ∷ []) × (next_delivery (runs rules (load 1 0 ∷ load 2 0 ∷ []) (fresh 3 [])) ≡ taking)
     × (map (λ t. passed_over rules t (taking ∷ []) (runs rules (load 1 0 ∷ load 2 0 ∷ []) (fresh 3 []))) (range 0 3) ≡ 0 ∷ 0 ∷ 1 ∷ []) × (is_request (some wb_guard_req) ≡ false)
-unfolding waits is_waiting waits_for waits_for_since waits_for_after waits_for_by history has_kind runs nextDelivery to_delivery from_delivery memory_delivery is_empty passed_over passes_over takes_tile takes_another takes_by request_at_front is_request tiles_of one_if is_accepted answer_of after kept step taking_on take_chosen take_front served serve posted kind_of outcome send send_to send_one push front rest on_tile1 settle at_tile at_word load_at fresh noc1 noc2 noc3 pop_noc1 arbitrate circle range first_of eligible has
+unfolding waits is_waiting waits_for waits_for_since waits_for_after waits_for_by history has_kind runs next_delivery to_delivery from_delivery memory_delivery is_empty passed_over passes_over takes_tile takes_another takes_by request_at_front is_request tiles_of one_if is_accepted answer_of after kept step taking_on take_chosen take_front served serve posted kind_of outcome send send_to send_one push front rest on_tile1 settle at_tile at_word load_at fresh noc1 noc2 noc3 pop_noc1 arbitrate circle range first_of eligible has
 tile_2_passed = (refl, refl, refl, refl)
 
 -- a bench with a request on NoC1 is not quiet

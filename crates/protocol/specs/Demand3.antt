@@ -62,8 +62,8 @@ unfoldable pub to_delivery : Option ℕ → Option ℕ → Bool → Bool → Cal
 to_delivery (some t) o x y = to_tile t
 to_delivery none o x y = from_delivery o x y
 
-unfoldable pub nextDelivery : Bench → Call
-nextDelivery (bench_of h l k mem out back ts) =
+unfoldable pub next_delivery : Bench → Call
+next_delivery (bench_of h l k mem out back ts) =
     to_delivery (first_of (λ t. not (is_empty (noc2 (tile_at ts t)))) (range 0 (length ts)))
     (first_of (λ t. not (is_empty (noc3 (tile_at ts t)))) (range 0 (length ts)))
     (is_empty out)
@@ -113,8 +113,8 @@ is_misfit r = eqb r.refusal misfit_refusal || eqb r.refusal queue_full_refusal
 
 -- The claim, of a machine of n tiles, the calls made so far with their answers, es, and the state s that they left.
 pub record Demand3 (m : Machine) (n : ℕ) (es : List Event) (s : m.State) : Type 0 where
-  -- a waiting tile means that some delivery, `nextDelivery`, can be accepted
-  pub progress : (t : ℕ) → waits t es ≡ true → (is_delivery (nextDelivery (m.view s)) ≡ true) × (can_be_accepted m (nextDelivery (m.view s)) s ≡ true)
+  -- a waiting tile means that some delivery, `next_delivery`, can be accepted
+  pub progress : (t : ℕ) → waits t es ≡ true → (is_delivery (next_delivery (m.view s)) ≡ true) × (can_be_accepted m (next_delivery (m.view s)) s ≡ true)
   -- if of the further calls ds no load, store, eviction or home eviction is accepted, at most (n+1)(2n+3) deliveries are
   pub bounded : (ds : List Call) → accepted_of m is_other ds s ≡ 0 → accepted_of m is_delivery ds s ≤ (n + 1) * (2 * n + 3)
   -- when no delivery can be accepted: no tile waits, every queue is empty, the home is idle

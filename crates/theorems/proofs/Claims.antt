@@ -15,7 +15,7 @@ use Rattle.protocol.specs.Bench.{fresh, tile_at}
 use Rattle.protocol.specs.Calls.{is_delivery, role_of}
 use Rattle.protocol.specs.Answers.{is_accepted}
 use Rattle.protocol.specs.Runs.{after, rules, runs, Event, history, can_be_accepted, waits_for}
-use Rattle.protocol.specs.Demand3.{is_waiting, waiting_of, tiles_of, one_if, accepted_of, is_other, nextDelivery, Quiet, request_at_front, takes_tile, takes_another, passes_over, passed_over, is_misfit, Demand3}
+use Rattle.protocol.specs.Demand3.{is_waiting, waiting_of, tiles_of, one_if, accepted_of, is_other, next_delivery, Quiet, request_at_front, takes_tile, takes_another, passes_over, passed_over, is_misfit, Demand3}
 use Rattle.protocol.specs.Order1.{Coherent, last_written, GivesLast, Order1}
 use Rattle.coherence.proofs.Theorem.{demand3}
 use Rattle.coherence.proofs.Order1.{order1}
@@ -53,7 +53,7 @@ module _ (n : ℕ) (b : Bench) (r l : List ℕ) (i : InRange n b) (e : l ≡ enc
       record {
         progress = λ t w.
             let p = d.progress t w in
-            subst (λ (x : Bench). (is_delivery (nextDelivery x) ≡ true) × (can_be_accepted lent_words (nextDelivery x) l ≡ true)) (sym view) (p.0, can (nextDelivery b) ∙ p.1);
+            subst (λ (x : Bench). (is_delivery (next_delivery x) ≡ true) × (can_be_accepted lent_words (next_delivery x) l ≡ true)) (sym view) (p.0, can (next_delivery b) ∙ p.1);
         bounded = λ ds z. subst (λ (k : ℕ). k ≤ (n + 1) * (2 * n + 3)) (sym (accepted_run n is_delivery ds b r l i e)) (d.bounded ds (sym (accepted_run n is_other ds b r l i e) ∙ z));
         quiet = λ f. let q = d.quiet (λ c y. sym (can c) ∙ f c y) in (q.0, subst Quiet (sym view) q.1);
         fair = λ ds t. subst (λ (k : ℕ). k ≤ n - 1) (sym (passed_run n t ds b r l i e)) (d.fair ds t);
