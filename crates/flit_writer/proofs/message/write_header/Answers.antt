@@ -5,23 +5,19 @@ use Rattle.flit_writer.proofs.message.write_header.Goals as goal
 
 pub bounds-part-1 : goal.bounds-part-1
 bounds-part-1 c =
-    let s = c in
-    simp length-set (omega (arith, room_three s.args.three c.if-three.true s.requires))
+    simp length-set (omega (arith, room_three c.args.three c.if-three.true c.requires))
 
 pub bounds-part-2 : goal.bounds-part-2
 bounds-part-2 c =
-    let s = c in
-    simp length-set (omega (arith, room_three s.args.three c.if-three.true s.requires))
+    simp length-set (omega (arith, room_three c.args.three c.if-three.true c.requires))
 
 pub returns-then-three : goal.returns-then-three
 returns-then-three c =
-    let s = c in
-    header_three s.args.part.now s.args.three s.args.header s.args.following c.if-three.true s.requires
+    header_three c.args.part.now c.args.three c.args.header c.args.following c.if-three.true c.requires
     c.flit1.ensures
     c.flit2.ensures
     c.flit3.ensures
 
 pub returns-else-three : goal.returns-else-three
 returns-else-three c =
-    let s = c in
-    header_one s.args.part.now s.args.three s.args.header s.args.following c.if-three.false s.requires c.flit1-else-three.ensures
+    header_one c.args.part.now c.args.three c.args.header c.args.following c.if-three.false c.requires c.flit1-else-three.ensures

@@ -5,11 +5,10 @@ use Rattle.flit_writer.proofs.message.write_message.Goals as goal
 
 pub returns : goal.returns
 returns c =
-    let s = c in
-    two_pieces s.args.part.now (header_flits s.args.three s.args.header s.args.following) s.args.words.now
+    two_pieces c.args.part.now (header_flits c.args.three c.args.header c.args.following) c.args.words.now
     c.select.result
-    (cond s.args.three 2 0)
+    (cond c.args.three 2 0)
     c.select.ensures
-    (header_length s.args.three s.args.header s.args.following)
+    (header_length c.args.three c.args.header c.args.following)
     c.write_header.ensures
     c.write_words.ensures

@@ -8,28 +8,24 @@ use Rattle.flit_writer.proofs.message.write_words.Goals as goal
 
 pub bounds-part-i : goal.bounds-part-i
 bounds-part-i c =
-    let s = c in
     let l = c.loop-i in
-    rw l.invariant.1 (rw (copy_length s.args.part.now s.args.words.now l.i (omega arith) (omega arith)) (omega arith))
+    rw l.invariant.1 (rw (copy_length c.args.part.now c.args.words.now l.i (omega arith) (omega arith)) (omega arith))
 
 pub loop-i-preserved : goal.loop-i-preserved
 loop-i-preserved c =
-    let s = c in
     let l = c.loop-i in (
       omega arith,
-      ap (λ (r : List ℕ). set r l.i (get_or s.args.words.now l.i 0)) l.invariant.1
-          ∙ copy_more s.args.part.now s.args.words.now l.i (omega arith) (omega arith),
+      ap (λ (r : List ℕ). set r l.i (get_or c.args.words.now l.i 0)) l.invariant.1
+          ∙ copy_more c.args.part.now c.args.words.now l.i (omega arith) (omega arith),
     )
 
 pub shape_of-part : goal.shape_of-part
 shape_of-part c =
-    let s = c in
     let l = c.loop-i in
-    ap length l.invariant.1 ∙ copy_length s.args.part.now s.args.words.now l.i (omega arith) (omega arith)
+    ap length l.invariant.1 ∙ copy_length c.args.part.now c.args.words.now l.i (omega arith) (omega arith)
 
 pub returns : goal.returns
 returns c =
-    let s = c in
     let l = c.loop-i in
-    let e : l.i ≡ length s.args.words.now = omega arith in
-    l.invariant.1 ∙ copy_all s.args.part.now s.args.words.now l.i e
+    let e : l.i ≡ length c.args.words.now = omega arith in
+    l.invariant.1 ∙ copy_all c.args.part.now c.args.words.now l.i e

@@ -5,44 +5,37 @@ use Rattle.flit_writer.proofs.writing.write.Goals as goal
 
 pub overflow_add-following : goal.overflow_add-following
 overflow_add-following c =
-    let s = c in
-    let l = write_room s.args.header s.args.words.now s.args.buffer.now s.args.at c.type_row-row.ensures c.write_refusal-refusal.ensures c.if-refusal-eq-ACCEPTED.true in
+    let l = write_room c.args.header c.args.words.now c.args.buffer.now c.args.at c.type_row-row.ensures c.write_refusal-refusal.ensures c.if-refusal-eq-ACCEPTED.true in
     omega (arith, c.select.ensures)
 
 pub offset_bounds-buffer-at : goal.offset_bounds-buffer-at
 offset_bounds-buffer-at c =
-    let s = c in
-    let l = write_room s.args.header s.args.words.now s.args.buffer.now s.args.at c.type_row-row.ensures c.write_refusal-refusal.ensures c.if-refusal-eq-ACCEPTED.true in
+    let l = write_room c.args.header c.args.words.now c.args.buffer.now c.args.at c.type_row-row.ensures c.write_refusal-refusal.ensures c.if-refusal-eq-ACCEPTED.true in
     omega (arith, c.select.ensures)
 
 pub slice_bounds-write_message-count : goal.slice_bounds-write_message-count
 slice_bounds-write_message-count c =
-    let s = c in
-    let l = write_room s.args.header s.args.words.now s.args.buffer.now s.args.at c.type_row-row.ensures c.write_refusal-refusal.ensures c.if-refusal-eq-ACCEPTED.true in
+    let l = write_room c.args.header c.args.words.now c.args.buffer.now c.args.at c.type_row-row.ensures c.write_refusal-refusal.ensures c.if-refusal-eq-ACCEPTED.true in
     omega (arith, c.select.ensures)
 
 pub slice_bounds-write_message-start : goal.slice_bounds-write_message-start
 slice_bounds-write_message-start c =
-    let s = c in
-    let l = write_room s.args.header s.args.words.now s.args.buffer.now s.args.at c.type_row-row.ensures c.write_refusal-refusal.ensures c.if-refusal-eq-ACCEPTED.true in
+    let l = write_room c.args.header c.args.words.now c.args.buffer.now c.args.at c.type_row-row.ensures c.write_refusal-refusal.ensures c.if-refusal-eq-ACCEPTED.true in
     omega (arith, c.select.ensures)
 
 pub write_message-requires : goal.write_message-requires
 write_message-requires c =
-    let s = c in
-    let l = write_room s.args.header s.args.words.now s.args.buffer.now s.args.at c.type_row-row.ensures c.write_refusal-refusal.ensures c.if-refusal-eq-ACCEPTED.true in
+    let l = write_room c.args.header c.args.words.now c.args.buffer.now c.args.at c.type_row-row.ensures c.write_refusal-refusal.ensures c.if-refusal-eq-ACCEPTED.true in
     simp (length-take, length-drop) (omega arith)
 
 pub overflow_add-result : goal.overflow_add-result
 overflow_add-result c =
-    let s = c in
-    let l = write_room s.args.header s.args.words.now s.args.buffer.now s.args.at c.type_row-row.ensures c.write_refusal-refusal.ensures c.if-refusal-eq-ACCEPTED.true in
+    let l = write_room c.args.header c.args.words.now c.args.buffer.now c.args.at c.type_row-row.ensures c.write_refusal-refusal.ensures c.if-refusal-eq-ACCEPTED.true in
     omega (arith, c.select.ensures)
 
 pub returns-then-refusal-eq-ACCEPTED : goal.returns-then-refusal-eq-ACCEPTED
 returns-then-refusal-eq-ACCEPTED c =
-    let s = c in
-    write_done s.args.header s.args.words.now s.args.buffer.now s.args.at c.type_row-row.ensures c.write_refusal-refusal.ensures
+    write_done c.args.header c.args.words.now c.args.buffer.now c.args.at c.type_row-row.ensures c.write_refusal-refusal.ensures
     c.select.result
     c.if-refusal-eq-ACCEPTED.true
     c.select.ensures
@@ -50,5 +43,4 @@ returns-then-refusal-eq-ACCEPTED c =
 
 pub returns-else-refusal-eq-ACCEPTED : goal.returns-else-refusal-eq-ACCEPTED
 returns-else-refusal-eq-ACCEPTED c =
-    let s = c in
-    write_refused_lem s.args.header s.args.words.now s.args.buffer.now s.args.at c.type_row-row.ensures c.write_refusal-refusal.ensures c.if-refusal-eq-ACCEPTED.false
+    write_refused_lem c.args.header c.args.words.now c.args.buffer.now c.args.at c.type_row-row.ensures c.write_refusal-refusal.ensures c.if-refusal-eq-ACCEPTED.false

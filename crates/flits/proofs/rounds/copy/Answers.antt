@@ -3,8 +3,7 @@ use Rattle.flits.proofs.rounds.copy.Goals as goal
 
 pub returns-then-front-eq-ACCEPTED : goal.returns-then-front-eq-ACCEPTED
 returns-then-front-eq-ACCEPTED c =
-    let s = c in
-    copy_done s.args.flits.now s.args.buffer.now s.args.at (λ k. (c.type_inv.flits k).fits)
+    copy_done c.args.flits.now c.args.buffer.now c.args.at (λ k. (c.type_inv.flits k).fits)
     c.read-front.ensures
     c.if-front-eq-ACCEPTED.true
     c.data_words-words.ensures
@@ -12,5 +11,4 @@ returns-then-front-eq-ACCEPTED c =
 
 pub returns-else-front-eq-ACCEPTED : goal.returns-else-front-eq-ACCEPTED
 returns-else-front-eq-ACCEPTED c =
-    let s = c in
-    copy_refused s.args.flits.now s.args.buffer.now s.args.at c.read-front.ensures c.if-front-eq-ACCEPTED.false
+    copy_refused c.args.flits.now c.args.buffer.now c.args.at c.read-front.ensures c.if-front-eq-ACCEPTED.false
