@@ -140,7 +140,7 @@ accepted_job job e =
       short = s.0;
       header = w;
       some_tiles = t.0;
-      most_tiles_lem = t.1;
+      tiles_fit = t.1;
       aligned = address_good job f1.tag_is f1.good;
       calls_to_end = walk (length job) job 80 3 (omega arith) w (omega arith) (look job 80 3 (rw f2.next_is at f2.rest));
     }

@@ -19,7 +19,7 @@ pub record AcceptedJob (job : List ℕ) : Type 0 where
   pub short : length job ≤ most_job_bytes
   pub header : header_bytes ≤ length job
   pub some_tiles : 1 ≤ tile_count_of job
-  pub most_tiles_lem : tile_count_of job ≤ most_tiles
+  pub tiles_fit : tile_count_of job ≤ most_tiles
   pub aligned : line_address_of job % line_bytes ≡ 0
   pub calls_to_end : CallsToEnd job header_bytes (calls_of job)
 

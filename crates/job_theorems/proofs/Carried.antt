@@ -81,9 +81,9 @@ module _ (n : ℕ) (ts : List Tile) (e : length ts ≡ n) (i : TilesIn ts) (t : 
 
 fine_at : (n : ℕ) (b : Bench) → InRange n b → (m : Message) → Fine n (last_message_on b (queue_of_message m))
 unfolding last_message_on queue_of_message
-fine_at n (bench_of h l k mem out back ts) i (on_noc1 t m) = noc1_fine n ts i.tile_count_lem i.tiles_in t
-fine_at n (bench_of h l k mem out back ts) i (on_noc2 t m) = noc2_fine n ts i.tile_count_lem i.tiles_in t
-fine_at n (bench_of h l k mem out back ts) i (on_noc3 t m) = noc3_fine n ts i.tile_count_lem i.tiles_in t
+fine_at n (bench_of h l k mem out back ts) i (on_noc1 t m) = noc1_fine n ts i.tiles_given i.tiles_in t
+fine_at n (bench_of h l k mem out back ts) i (on_noc2 t m) = noc2_fine n ts i.tiles_given i.tiles_in t
+fine_at n (bench_of h l k mem out back ts) i (on_noc3 t m) = noc3_fine n ts i.tiles_given i.tiles_in t
 fine_at n (bench_of h l k mem out back ts) i (to_memory m) = last_fine range.ToMemoryIn to_memory n (λ a p. p) out i.out_in
 fine_at n (bench_of h l k mem out back ts) i (from_memory m) = last_fine range.FromMemoryIn from_memory n (λ a p. p) back i.back_in
 
@@ -112,7 +112,7 @@ all_taken n b i h (m ∷ ms) e = (
 )
 
 most : (n : ℕ) (b : Bench) → InRange n b → n ≤ 64
-most n (bench_of h l k mem out back ts) i = i.most_tiles_lem
+most n (bench_of h l k mem out back ts) i = i.tiles_fit
 
 -- The messages of every accepted call on a bench in range.
 pub sent_taken : (n : ℕ) (c : Call) (b : Bench) → InRange n b → (k v : ℕ) (b' : Bench) (ms : List Message) → step c b ≡ accepted k v b' ms → AllTaken ms

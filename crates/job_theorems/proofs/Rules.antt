@@ -87,4 +87,4 @@ by_the_rules job l h e enough =
     let a = accepted_job job e in
     ap (λ (x : List (List ℕ)). bench_line (tile_count_of job) (line_address_of job) ∷ x)
     (steps (line_address_of job) (address job h a.aligned) (tile_count_of job) 0 (map bench_call (calls_of job)) (fresh (tile_count_of job) (memory_words_of job)) (drop (bench_words (tile_count_of job)) l) _
-    (fresh_in (tile_count_of job) (memory_words_of job) a.some_tiles a.most_tiles_lem (eight job)) (start_words l (tile_count_of job) (memory_words_of job) a.some_tiles a.most_tiles_lem enough))
+    (fresh_in (tile_count_of job) (memory_words_of job) a.some_tiles a.tiles_fit (eight job)) (start_words l (tile_count_of job) (memory_words_of job) a.some_tiles a.tiles_fit enough))

@@ -167,7 +167,7 @@ unfolding printout
 run job l len y w h = go (eqb (check_job job).refusal 0) refl
   where
     go : (t : Bool) → eqb (check_job job).refusal 0 ≡ t → printed (length job) job len l ≡ all_of (cond t (bytes_of (rule_listing job)) (refused_line (check_job job).refusal (check_job job).offset))
-    go true e = let a = zero_accepted job (eqb-true _ _ e) in accepted_run job l len y a (omega (arith, (accepted_job job a).most_tiles_lem)) h
+    go true e = let a = zero_accepted job (eqb-true _ _ e) in accepted_run job l len y a (omega (arith, (accepted_job job a).tiles_fit)) h
     go false e = refused_run job l len (length job) (eqb-false _ _ e) h
 
 -- ---- the words that it leaves
@@ -228,4 +228,4 @@ all_words job l len e w h =
     ∙ last_words (suc (length job)) job len (preceded bs x) h
     (λ g. let z = piece_further (suc (length job)) job (line_address_of job) (len - most_call_bytes) (length bs) 0 header_bytes _ g in record { fewer = z.fewer (omega arith); some = omega arith; enough = omega (arith, z.further) })
     ∙ sym (piece_words (length job) job (line_address_of job) (len - most_call_bytes) (length bs) 0 header_bytes (words_started l (tile_count_of job) (start_on l (tile_count_of job) (memory_words_of job))) (omega arith))
-    ∙ (started (tile_count_of job) a.some_tiles a.most_tiles_lem (memory_words_of job) (eight job) l w (map bench_call (calls_of job))).after
+    ∙ (started (tile_count_of job) a.some_tiles a.tiles_fit (memory_words_of job) (eight job) l w (map bench_call (calls_of job))).after

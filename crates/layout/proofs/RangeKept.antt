@@ -112,7 +112,7 @@ module _ {n : ℕ} {h : Home} {l k : ℕ} {mem : Words} {out : Queue ToMemory} {
   with_home_lem h' l' k' mem' out' back' a b c d e f =
       record {
         some_tile = i.some_tile;
-        most_tiles_lem = i.most_tiles_lem;
+        tiles_fit = i.tiles_fit;
         home_in = a.0;
         home_eight = a.1;
         last_in = b;
@@ -120,7 +120,7 @@ module _ {n : ℕ} {h : Home} {l k : ℕ} {mem : Words} {out : Queue ToMemory} {
         memory_eight = d;
         out_in = e;
         back_in = f;
-        tile_count_lem = i.tile_count_lem;
+        tiles_given = i.tiles_given;
         tiles_in = i.tiles_in;
       }
 
@@ -128,7 +128,7 @@ module _ {n : ℕ} {h : Home} {l k : ℕ} {mem : Words} {out : Queue ToMemory} {
   with_tile t y p =
       record {
         some_tile = i.some_tile;
-        most_tiles_lem = i.most_tiles_lem;
+        tiles_fit = i.tiles_fit;
         home_in = i.home_in;
         home_eight = i.home_eight;
         last_in = i.last_in;
@@ -136,7 +136,7 @@ module _ {n : ℕ} {h : Home} {l k : ℕ} {mem : Words} {out : Queue ToMemory} {
         memory_eight = i.memory_eight;
         out_in = i.out_in;
         back_in = i.back_in;
-        tile_count_lem = length-set ts t y ∙ i.tile_count_lem;
+        tiles_given = length-set ts t y ∙ i.tiles_given;
         tiles_in = set_in ts t y i.tiles_in p;
       }
 
@@ -455,7 +455,7 @@ take_from_in : {n l k : ℕ} {mem : Words} {out : Queue ToMemory} {back : Queue 
 unfolding take_chosen
 take_from_in x i none e = tt
 take_from_in {l = l} {k = k} {ts = ts} x i (some t) e =
-    take_in (with_tile i t (pop_noc1 (tile_at ts t)) (pop1_in (tile_at ts t) (here i t))) t (front (noc1 (tile_at ts t))) x (subst (λ (s : ℕ). t < s) i.tile_count_lem (taken_below l k ts t e)) i.home_in i.home_eight
+    take_in (with_tile i t (pop_noc1 (tile_at ts t)) (pop1_in (tile_at ts t) (here i t))) t (front (noc1 (tile_at ts t))) x (subst (λ (s : ℕ). t < s) i.tiles_given (taken_below l k ts t e)) i.home_in i.home_eight
 
 taking_in : (n : ℕ) (b : Bench) → InRange n b → ResultIn n (taking_on b)
 unfolding taking_on
@@ -470,7 +470,7 @@ unfolding from_tile_on
 from_tile_in n t (bench_of h l k mem out back ts) i =
     by_test (ResultIn n) (ltb t (length ts)) _ (refused 2)
     (λ e.
-    accept_in (with_tile i t (pop_noc3 (tile_at ts t)) (pop3_in (tile_at ts t) (here i t))) t (front (noc3 (tile_at ts t))) (subst (λ (s : ℕ). t < s) i.tile_count_lem (ltb-true t (length ts) e))
+    accept_in (with_tile i t (pop_noc3 (tile_at ts t)) (pop3_in (tile_at ts t) (here i t))) t (front (noc3 (tile_at ts t))) (subst (λ (s : ℕ). t < s) i.tiles_given (ltb-true t (length ts) e))
     (front3_in (tile_at ts t) (here i t)))
     (λ e. tt)
 
@@ -530,7 +530,7 @@ unfolding fresh
 fresh_in n mem a b e =
     record {
       some_tile = a;
-      most_tiles_lem = b;
+      tiles_fit = b;
       home_in = tt;
       home_eight = tt;
       last_in = omega arith;
@@ -538,6 +538,6 @@ fresh_in n mem a b e =
       memory_eight = e;
       out_in = tt;
       back_in = tt;
-      tile_count_lem = length-replicate n fresh_tile;
+      tiles_given = length-replicate n fresh_tile;
       tiles_in = fresh_tiles n;
     }

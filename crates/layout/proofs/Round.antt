@@ -399,7 +399,7 @@ unfolding bench_from
 bench_read x ts a b f n h =
     record {
       some_tile = a;
-      most_tiles_lem = b;
+      tiles_fit = b;
       home_in = home_read x.count x.phase x.line x.control.n2 x.control.n3 a;
       home_eight = home_words_read x.count x.phase x.line x.control.n2 x.control.n3 f.line_full;
       last_in = mod-lt x.control.n0 a;
@@ -407,6 +407,6 @@ bench_read x ts a b f n h =
       memory_eight = f.control_full;
       out_in = queue_read ToMemoryIn dec_to_memory to_memory_read x.out f.out_full;
       back_in = queue_read FromMemoryIn dec_from_memory from_memory_read x.back f.back_full;
-      tile_count_lem = n;
+      tiles_given = n;
       tiles_in = h;
     }

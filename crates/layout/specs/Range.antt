@@ -104,7 +104,7 @@ HomeEight (awaiting_store x) = LineEight x
 -- A bench of n tiles, 1 to 64: home h, last taken l, marks k, memory mem, queues to and from memory, tiles ts.
 pub record BenchIn (n : ℕ) (h : Home) (l k : ℕ) (mem : Words) (out : Queue ToMemory) (back : Queue FromMemory) (ts : List Tile) : Type 0 where
   pub some_tile : 1 ≤ n
-  pub most_tiles_lem : n ≤ most_tiles
+  pub tiles_fit : n ≤ most_tiles
   pub home_in : HomeIn n h
   pub home_eight : HomeEight h
   pub last_in : l < n
@@ -112,7 +112,7 @@ pub record BenchIn (n : ℕ) (h : Home) (l k : ℕ) (mem : Words) (out : Queue T
   pub memory_eight : Eight mem
   pub out_in : QueueIn ToMemoryIn out
   pub back_in : QueueIn FromMemoryIn back
-  pub tile_count_lem : length ts ≡ n
+  pub tiles_given : length ts ≡ n
   pub tiles_in : TilesIn ts
 
 abbrev pub InRange : ℕ → Bench → Type 0

@@ -67,7 +67,7 @@ home_names n (awaiting_acks d ws m u clear_for_eviction) h = tt
 home_names n (awaiting_store l) h = tt
 
 pub names : (n : ℕ) (b : Bench) → InRange n b → NamesTiles b
-names n (bench_of h l k mem out back ts) i = (omega (arith, i.tile_count_lem, i.most_tiles_lem), subst (λ (z : ℕ). HomeNames z h) (sym i.tile_count_lem) (home_names n h i.home_in))
+names n (bench_of h l k mem out back ts) i = (omega (arith, i.tiles_given, i.tiles_fit), subst (λ (z : ℕ). HomeNames z h) (sym i.tiles_given) (home_names n h i.home_in))
 
 -- ---- words that pass the test
 

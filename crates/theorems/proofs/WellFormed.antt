@@ -90,7 +90,7 @@ module _ (h : Home) (last k : ℕ) (mem : Words) (out : Queue ToMemory) (back : 
       (record {
         long = omega (arith, enough);
         some = rw count_is i.some_tile;
-        most = rw count_is i.most_tiles_lem;
+        most = rw count_is i.tiles_fit;
         enough = rw count_is enough;
         home = rw home_is (home_passes (length ts) h last k mem out back ts i);
         tiles = rw count_is (tiles_pass true l 74 (length ts) refl (λ t b. ap tile_ok (tile_is t b) ∙ tile_passes (tile_at ts t) (tile_in ts t i.tiles_in)));
@@ -119,16 +119,16 @@ pub record Encodes (n : ℕ) (b : Bench) (r l : List ℕ) : Type 0 where
 -- an encoding takes exactly the words that its tiles need
 pub length_encode : (n : ℕ) (b : Bench) → InRange n b → length (encode b) ≡ bench_words n
 length_encode n (bench_of h last k mem out back ts) i =
-    size h last k mem out back ts [] (subst (λ (m : ℕ). BenchIn m h last k mem out back ts) (sym i.tile_count_lem) i) ∙ ap bench_words i.tile_count_lem
+    size h last k mem out back ts [] (subst (λ (m : ℕ). BenchIn m h last k mem out back ts) (sym i.tiles_given) i) ∙ ap bench_words i.tiles_given
 
 pub encodes : (n : ℕ) (b : Bench) (r l : List ℕ) → InRange n b → l ≡ encode b ++ r → Encodes n b r l
 encodes n (bench_of h last k mem out back ts) r l i e =
-    let j = subst (λ (m : ℕ). BenchIn m h last k mem out back ts) (sym i.tile_count_lem) i in
+    let j = subst (λ (m : ℕ). BenchIn m h last k mem out back ts) (sym i.tiles_given) i in
     subst (Encodes n (bench_of h last k mem out back ts) r) (sym e)
     (record {
       is_well_formed = passes h last k mem out back ts r j;
       decodes = decodes_to h last k mem out back ts r j;
-      counts = count_is h last k mem out back ts r j ∙ i.tile_count_lem;
+      counts = count_is h last k mem out back ts r j ∙ i.tiles_given;
       behind = drop_at (encode (bench_of h last k mem out back ts)) r (bench_words n) (length_encode n (bench_of h last k mem out back ts) i);
     })
 
