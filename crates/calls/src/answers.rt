@@ -1,47 +1,59 @@
-// What a call on a bench answers.
-ghost use Rattle.std.specs.Prelude.{◌≡◌, cond, eqb};
-ghost use Rattle.numbers.specs.Queues.{no_queue_number};
-ghost use Rattle.numbers.specs.Refusals.{no_refusal};
-ghost use Rattle.masks.specs.Mask.{add64};
-ghost use Rattle.protocol.specs.Answers.{refusal};
+// What a call on a bench answers: its kind and value and the messages that it sent, or what it is refused for. specs/Answers tells it in
+// the paper's numbers.
+ghost use Rattle.std.specs.Prelude.{◌≡◌};
+ghost use Rattle.calls.specs.Answers.{tiles_of, told};
 
-use numbers::kinds::KIND_OTHER;
-use numbers::queues::NO_QUEUE;
-use numbers::refusals::ACCEPTED;
-use protocol::Answer;
+use numbers::kinds::Kind;
+use numbers::queues::Queues;
+use numbers::refusals::{ACCEPTED, Refusal};
 
-pub fn refused(number: u64) -> Answer
-    ensures { result ≡ refusal number }
-{
-    Answer {
-        refusal: number,
-        kind: KIND_OTHER,
-        value: 0,
-        sent: NO_QUEUE,
-        tiles: 0,
+// An accepted call: its kind and value, on which queues it sent messages, and the tiles whose queues they are, as a mask.
+#[derive(Clone, Copy, Debug, PartialEq, Eq)]
+pub struct Accepted {
+    pub kind: Kind,
+    pub value: u64,
+    pub sent: Queues,
+    pub tiles: u64,
+}
+
+pub type Answer = Result<Accepted, Refusal>;
+
+impl Accepted {
+    // Of a call that sent on the queues of one tile alone, if at all.
+    pub fn at_tile(tile: u64, kind: Kind, value: u64, sent: Queues) -> Accepted
+        ensures { result ≡ record { kind = kind; value = value; sent = sent; tiles = tiles_of sent tile } }
+    {
+        let tiles = match sent {
+            Queues::Nothing => 0,
+            _ => masks::add(0, tile),
+        };
+        Accepted {
+            kind,
+            value,
+            sent,
+            tiles,
+        }
     }
 }
 
-// Messages sent on the queues of the tiles of a mask.
-pub fn accepted(kind: u64, value: u64, sent: u64, tiles: u64) -> Answer
-    ensures { result ≡ record { refusal = no_refusal; kind = kind; value = value; sent = sent; tiles = tiles } }
+// An answer in the paper's numbers: refusal number 0 where the call was accepted, else the number alone.
+pub fn told(answer: Answer) -> protocol::Answer
+    ensures { result ≡ told answer }
 {
-    Answer {
-        refusal: ACCEPTED,
-        kind,
-        value,
-        sent,
-        tiles,
-    }
-}
-
-// Messages sent on the queues of one tile alone, if any were.
-pub fn accepted_at(tile: u64, kind: u64, value: u64, sent: u64) -> Answer
-    ensures { result ≡ record { refusal = no_refusal; kind = kind; value = value; sent = sent; tiles = cond (eqb sent no_queue_number) 0 (add64 0 tile) } }
-{
-    if sent == NO_QUEUE {
-        accepted(kind, value, sent, 0)
-    } else {
-        accepted(kind, value, sent, masks::add(0, tile))
+    match answer {
+        Ok(accepted) => protocol::Answer {
+            refusal: ACCEPTED,
+            kind: u64::from(accepted.kind),
+            value: accepted.value,
+            sent: u64::from(accepted.sent),
+            tiles: accepted.tiles,
+        },
+        Err(refusal) => protocol::Answer {
+            refusal: u64::from(refusal),
+            kind: u64::from(Kind::Other),
+            value: 0,
+            sent: u64::from(Queues::Nothing),
+            tiles: 0,
+        },
     }
 }

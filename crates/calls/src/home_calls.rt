@@ -7,6 +7,7 @@ use numbers::tags::{
     TAG_FROM_TILE, TAG_HOME_EVICTION, TAG_MEMORY_ACK, TAG_MEMORY_STEP, TAG_TAKING,
 };
 
+// A tag and no enum, as a call at a tile (tile_calls) has one: `bench::at_home`, which is given its parts, takes a tag.
 // The tag (taking, delivery from a tile, memory step, memory ack, else home eviction), and the tile where the call names one.
 #[derive(Clone, Copy)]
 pub struct HomeCall {

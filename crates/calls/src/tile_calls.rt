@@ -6,6 +6,7 @@ ghost use Rattle.calls.specs.Numbered.{call_at_tile};
 
 use numbers::tags::{TAG_EVICT, TAG_LOAD, TAG_STORE, TAG_TO_TILE};
 
+// A tag and no enum: exports hands its parts to `bench::at_tile`, which takes a tag, so an enum would be taken apart into these four again.
 // The tag (load, store, evict, else delivery to the tile), the tile, and of word and value what the call has.
 #[derive(Clone, Copy)]
 pub struct TileCall {
@@ -63,11 +64,5 @@ pub fn to_tile(tile: u64) -> TileCall
 pub fn is_tile_call(tag: u64) -> bool
     ensures { result ≡ has_tag tile_calls tag }
 {
-    match tag {
-        TAG_LOAD => true,
-        TAG_STORE => true,
-        TAG_EVICT => true,
-        TAG_TO_TILE => true,
-        _ => false,
-    }
+    matches!(tag, TAG_LOAD | TAG_STORE | TAG_EVICT | TAG_TO_TILE)
 }

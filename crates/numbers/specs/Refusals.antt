@@ -1,5 +1,7 @@
 -- Refusal numbers (01, 'Refusal numbers' and 'Jobs'), in the paper's order.
 use Rattle.std.specs.Prelude.{ℕ}
+use Rattle.numbers.specs.declared.refusals.Refusal.{Refusal}
+use Rattle.numbers.specs.declared.refusals.Refusal.TheVariants.{Malformed, NoTile, NoWord, TileWaits, NoLine, NotIdle, NothingThere, Misfit, QueueFull, NoFlit, UnknownType, WrongLength, FlitsMissing, UnknownPort, ReservedSet, BadField, NoRoom, JobCut, JobTag, JobLength, JobPlace, JobValue, JobTooLong}
 
 -- not refused
 abbrev pub no_refusal : ℕ
@@ -102,3 +104,29 @@ job_value_refusal = 24
 -- too long
 abbrev pub job_too_long_refusal : ℕ
 job_too_long_refusal = 25
+
+-- the number of each refusal that the code names
+abbrev pub refusal_number : Refusal → ℕ
+refusal_number Malformed = malformed_refusal
+refusal_number NoTile = no_tile_refusal
+refusal_number NoWord = no_word_refusal
+refusal_number TileWaits = tile_waits_refusal
+refusal_number NoLine = no_line_refusal
+refusal_number NotIdle = not_idle_refusal
+refusal_number NothingThere = nothing_there_refusal
+refusal_number Misfit = misfit_refusal
+refusal_number QueueFull = queue_full_refusal
+refusal_number NoFlit = no_flit_refusal
+refusal_number UnknownType = unknown_type_refusal
+refusal_number WrongLength = wrong_length_refusal
+refusal_number FlitsMissing = flits_missing_refusal
+refusal_number UnknownPort = unknown_port_refusal
+refusal_number ReservedSet = reserved_set_refusal
+refusal_number BadField = bad_field_refusal
+refusal_number NoRoom = no_room_refusal
+refusal_number JobCut = job_cut_refusal
+refusal_number JobTag = job_tag_refusal
+refusal_number JobLength = job_length_refusal
+refusal_number JobPlace = job_place_refusal
+refusal_number JobValue = job_value_refusal
+refusal_number JobTooLong = job_too_long_refusal

@@ -1,4 +1,5 @@
-// Tags of a job's fields (01, 'Jobs'). A call's tag is its number everywhere.
+// Tags of a job's fields (01, 'Jobs'). A call's tag is its number everywhere. Numbers and no enum: job bytes hold them, and
+// `bench::at_tile`, `bench::at_home` and `jobs::run_call` have an answer for every tag.
 pub const TAG_TILES: u64 = 1;
 
 pub const TAG_LINE: u64 = 2;

@@ -1,4 +1,5 @@
-// Message types (01, 'Flit words': the table's first column).
+// Message types (01, 'Flit words': the table's first column). Numbers and no enum: lent words and flits hold them, and there a call has an
+// answer for every number (docs/PROMISES.md, 2 and 4).
 // no type of the table: a free place of a queue, or no message at all
 pub const NO_MESSAGE: u64 = 0;
 

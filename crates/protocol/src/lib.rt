@@ -4,8 +4,9 @@
 // by number), Answers (what a call answers), Runs (lists of calls), Demand3, Order1 and Beats (the statements).
 #![tactic(auto)]
 
-// What a call answers: refusal number, kind and value; on which queues it sent messages, by number, and the tiles whose queues they are,
-// as a mask.
+// What a call answers in the paper's numbers, as the definitions, C and a listing say it (the code's own is `calls::Answer`, which
+// `calls::told` tells in these): refusal number, kind and value; on which queues it sent messages, by number, and the tiles whose queues
+// they are, as a mask.
 #[derive(Clone, Copy)]
 pub struct Answer {
     pub refusal: u64,
