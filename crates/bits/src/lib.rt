@@ -2,13 +2,14 @@
 // proofs/FieldLaws. Every call has an answer for every input: what a word cannot hold is 0 or is left as it is, as the definitions say.
 #![tactic(auto)]
 
-ghost use Rattle.std.specs.Prelude.{cond, ◌≡◌, ◌*◌, ◌/◌, ◌%◌, ◌^◌};
+ghost use Rattle.std.specs.Prelude.{◌≡◌, ◌*◌, ◌/◌, ◌%◌, ◌^◌};
 ghost use Rattle.bits.specs.Field.{word_bits, cut, put64};
 
 // bits of a word
 pub const WORD_BITS: u64 = 64;
 
 // The word moved down by some places. Past the word's end nothing is left.
+#[tactic(auto, using(crate::proofs::WordLaws::shr_past))]
 pub fn shr(word: u64, places: u64) -> u64
     ensures { result ≡ word / 2 ^ places }
 {
@@ -20,6 +21,7 @@ pub fn shr(word: u64, places: u64) -> u64
 }
 
 // The word moved up by some places, of which 64 bits stay.
+#[tactic(auto, using(crate::proofs::WordLaws::shl_past))]
 fn shl(word: u64, places: u64) -> u64
     ensures { result ≡ word * 2 ^ places % 2 ^ word_bits }
 {
@@ -31,6 +33,7 @@ fn shl(word: u64, places: u64) -> u64
 }
 
 // The lowest bits of the word, `width` of them.
+#[tactic(auto, using(crate::proofs::WordLaws::one_shl_pos, crate::proofs::WordLaws::and_ones, crate::proofs::WordLaws::low_past))]
 pub fn low(word: u64, width: u64) -> u64
     ensures { result ≡ word % 2 ^ width }
 {
@@ -49,26 +52,15 @@ pub fn cut(word: u64, place: u64, width: u64) -> u64
 }
 
 // The word with the field of `width` bits from `place` on set to a value. A field that does not lie inside the word is not set.
+#[tactic(auto, using(crate::proofs::FieldLaws::put_word, crate::proofs::FieldLaws::put_none))]
 pub fn put(word: u64, place: u64, width: u64, value: u64) -> u64
     ensures { result ≡ put64 word place width value }
 {
-    if place <= WORD_BITS {
-        if width <= WORD_BITS - place {
-            let end = place + width;
-            let above = shl(shr(word, end), end);
-            let field = shl(low(value, width), place);
-            above | (field | low(word, place))
-        } else {
-            word
-        }
-    } else {
-        word
+    if place > WORD_BITS || width > WORD_BITS - place {
+        return word;
     }
-}
-
-// One of two words, by a test.
-pub fn select(holds: bool, yes: u64, no: u64) -> u64
-    ensures { result ≡ cond holds yes no }
-{
-    if holds { yes } else { no }
+    let end = place + width;
+    let above = shl(shr(word, end), end);
+    let field = shl(low(value, width), place);
+    above | (field | low(word, place))
 }

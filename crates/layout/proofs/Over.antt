@@ -4,9 +4,9 @@ use mathlib.Core.Path.{◌≡◌, refl, ap, sym, ◌∙◌, subst}
 use mathlib.Core.List.{List, [], ◌∷◌, ◌++◌, append_assoc}
 use native.Mathlib.Omega.{arith}
 use native.Mathlib.Nat.{add_assoc}
-use native.Mathlib.Numerals.{add-one, towards_suc}
-use lib.ListN.{length, get_or, set, take, drop, length-append, length-drop}
-use lib.Seq.{sets, sets-eq, paste, paste-suc, drop-drop, drop-cons, get_or-drop, take-add, take_all, take-length, take-suc, take-suc-set}
+use native.Mathlib.Numerals.{add-one}
+use lib.ListN.{length, get_or, set, take, drop, length-append}
+use lib.Seq.{sets, sets-eq, paste, paste-suc, drop-drop, drop-cons, take-add, take_all, take-length}
 use Rattle.lists.specs.Over.{over}
 use Rattle.lists.proofs.OverLaws.{then_over}
 use Rattle.layout.specs.declared.rows.Row.{Row}
@@ -30,17 +30,7 @@ take_drop (suc n) l j h =
     let k : j < length l = omega arith in
     rw (drop-cons l j 0 k) (ap (λ (r : List ℕ). get_or l j 0 ∷ r) (take_drop n l (suc j) (omega arith)))
 
--- One turn of the loop that reads eight words, and its end.
-pub read_turn : (l d : List ℕ) (at i : ℕ) → i < length d → at + i < length l → take i d ≡ take i (drop at l) → take (i + 1) (set d i (get_or l (at + i) 0)) ≡ take (i + 1) (drop at l)
-read_turn l d at i h k e =
-    let m : i < length (drop at l) = simp length-drop (omega arith) in
-    rw add-one (take-suc-set d i (get_or l (at + i) 0) h ∙ ap (λ (r : List ℕ). r ++ (get_or l (at + i) 0 ∷ [])) e
-    ∙ ap (λ (v : ℕ). take i (drop at l) ++ (v ∷ [])) (sym (get_or-drop at l i 0)) ∙ sym (take-suc (drop at l) i 0 m))
-
-pub read_end : (l d : List ℕ) (at i : ℕ) → length d ≡ 8 → i ≡ 8 → take i d ≡ take i (drop at l) → d ≡ take 8 (drop at l)
-read_end l d at i n k e = sym (take_all 8 d (omega arith)) ∙ subst (λ (j : ℕ). take j d ≡ take j (drop at l)) k e
-
--- and of the loop that writes them
+-- One turn of a loop that writes numbers one after the other, and its end.
 pub write_turn : (l m d : List ℕ) (at i : ℕ) → i < length d → at + i < length l → m ≡ paste l at d i → set m (at + i) (get_or d i 0) ≡ paste l at d (i + 1)
 write_turn l m d at i h k e = rw add-one (ap (λ (r : List ℕ). set r (at + i) (get_or d i 0)) e ∙ paste-suc l at d i 0 k h)
 
@@ -83,10 +73,6 @@ first_eight l h = take_drop 8 l 0 (omega arith)
 
 pub eight : (l : List ℕ) → length l ≡ 8 → l ≡ get_or l 0 0 ∷ get_or l 1 0 ∷ get_or l 2 0 ∷ get_or l 3 0 ∷ get_or l 4 0 ∷ get_or l 5 0 ∷ get_or l 6 0 ∷ get_or l 7 0 ∷ []
 eight l h = sym (take_all 8 l (omega arith)) ∙ first_eight l (omega arith)
-
--- stores one after the other, as each writing function makes them
-pub four_stores : (l : List ℕ) (i a b c d : ℕ) → i + 4 ≤ length l → set (set (set (set l i a) (i + 1) b) (i + 2) c) (i + 3) d ≡ over l i (a ∷ b ∷ c ∷ d ∷ [])
-four_stores l i a b c d h = simp towards_suc (sets_over l i (a ∷ b ∷ c ∷ d ∷ []) h)
 
 pub length_row : (r : Row) → length r.words ≡ 8 → length (row_words r) ≡ 12
 unfolding row_words

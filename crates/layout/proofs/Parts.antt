@@ -1,11 +1,13 @@
 -- Parts of the words written in place: what stands before and behind them is as it was. Assumes nothing.
 use Prim.Native.Nat.{ℕ, ◌+◌, ◌≤◌, ◌<◌}
 use mathlib.Core.Path.{◌≡◌, refl, ap, sym, ◌∙◌}
+use mathlib.Core.Bool.{Bool, true, false, cond}
 use mathlib.Core.List.{List, [], ◌∷◌, ◌++◌, append_assoc}
 use native.Mathlib.Omega.{arith}
+use lib.Dec.{eqb}
 use lib.ListN.{length, get_or, set, take, drop, length-append, length-take, length-drop, length-set, take-append-drop}
 use lib.Seq.{drop-drop, take-take, length-take-le, drop_at, take-set-lt, drop-set-add, take-set-le, drop-set-lt}
-use borrow.Author.Tests.{eq-eqb, ne_eqb}
+use borrow.Author.Tests.{eq-eqb, ne_eqb, eqb-true, eqb-false}
 use Rattle.lists.specs.Over.{over}
 use Rattle.lists.proofs.OverLaws.{length_over, over_over}
 use Rattle.layout.specs.declared.rows.Row.{Row}
@@ -14,7 +16,7 @@ use Rattle.layout.specs.Blocks.{row_at, pair_at, row_words, pair_words, PairFull
 use Rattle.layout.proofs.Over.{row_words_lem, length_row, write_pair}
 use Rattle.layout.proofs.Reading.{row_full}
 use Rattle.layout.specs.Encode.{no_row, row}
-use Rattle.layout.specs.Queues.{push_row, push_numbers, pop_row}
+use Rattle.layout.specs.Queues.{free_place, push_row, push_numbers, pop_row}
 
 -- writing back what was read changes nothing
 pub over_read : (l : List ℕ) (i n : ℕ) → i + n ≤ length l → over l i (take n (drop i l)) ≡ l
@@ -83,29 +85,47 @@ unfolding row_words row_at
 numbers_put l m i a b c d h e = e ∙ kept_behind l i (i + 4) 8 (a ∷ b ∷ c ∷ d ∷ []) refl (omega arith)
 
 -- a queue with a message put, and with its front taken
-pub push_first : (l m : List ℕ) (i : ℕ) (r : Row) → i + 24 ≤ length l → get_or l i 0 ≡ 0 → length r.words ≡ 8 → m ≡ over l i (row_words r) →
+push_first : (l m : List ℕ) (i : ℕ) (r : Row) → i + 24 ≤ length l → get_or l i 0 ≡ 0 → length r.words ≡ 8 → m ≡ over l i (row_words r) →
     (m ≡ over l i (pair_words (push_row (pair_at l i) r))) × PairFull (push_row (pair_at l i) r)
 unfolding push_row pair_at row_at
 push_first l m i r h e n e1 = rw (eq-eqb (get_or l i 0) 0 e) (first_put l m i r h n e1, record { first = n; second = row_full l (i + 12) (omega arith) })
 
-pub push_second : (l m : List ℕ) (i : ℕ) (r : Row) → i + 24 ≤ length l → (get_or l i 0 ≡ 0 → ⊥) → length r.words ≡ 8 → m ≡ over l (i + 12) (row_words r) →
+push_second : (l m : List ℕ) (i : ℕ) (r : Row) → i + 24 ≤ length l → (get_or l i 0 ≡ 0 → ⊥) → length r.words ≡ 8 → m ≡ over l (i + 12) (row_words r) →
     (m ≡ over l i (pair_words (push_row (pair_at l i) r))) × PairFull (push_row (pair_at l i) r)
 unfolding push_row pair_at row_at
 push_second l m i r h e n e1 = rw (ne_eqb (get_or l i 0) 0 e) (second_put l m i r h e1, record { first = row_full l i (omega arith); second = n })
 
-pub note_first : (l m : List ℕ) (i a b c d : ℕ) → i + 24 ≤ length l → get_or l i 0 ≡ 0 → m ≡ over l i (a ∷ b ∷ c ∷ d ∷ []) →
+note_first : (l m : List ℕ) (i a b c d : ℕ) → i + 24 ≤ length l → get_or l i 0 ≡ 0 → m ≡ over l i (a ∷ b ∷ c ∷ d ∷ []) →
     (m ≡ over l i (pair_words (push_numbers (pair_at l i) a b c d))) × PairFull (push_numbers (pair_at l i) a b c d)
 unfolding push_numbers pair_at row_at
 note_first l m i a b c d h e e1 =
     let n = row_full l i (omega arith) in
     rw (eq-eqb (get_or l i 0) 0 e) (first_put l m i (row a b c d (row_at l i).words) h n (numbers_put l m i a b c d (omega arith) e1), record { first = n; second = row_full l (i + 12) (omega arith) })
 
-pub note_second : (l m : List ℕ) (i a b c d : ℕ) → i + 24 ≤ length l → (get_or l i 0 ≡ 0 → ⊥) → m ≡ over l (i + 12) (a ∷ b ∷ c ∷ d ∷ []) →
+note_second : (l m : List ℕ) (i a b c d : ℕ) → i + 24 ≤ length l → (get_or l i 0 ≡ 0 → ⊥) → m ≡ over l (i + 12) (a ∷ b ∷ c ∷ d ∷ []) →
     (m ≡ over l i (pair_words (push_numbers (pair_at l i) a b c d))) × PairFull (push_numbers (pair_at l i) a b c d)
 unfolding push_numbers pair_at row_at
 note_second l m i a b c d h e e1 =
     let n = row_full l (i + 12) (omega arith) in
     rw (ne_eqb (get_or l i 0) 0 e) (second_put l m i (row a b c d (row_at l (i + 12)).words) h (numbers_put l m (i + 12) a b c d (omega arith) e1), record { first = row_full l i (omega arith); second = n })
+
+-- both at the first free place
+module _ (l m : List ℕ) (i p : ℕ) (h : i + 24 ≤ length l) (e : p ≡ free_place l i) where
+  pub pushed : (r : Row) → length r.words ≡ 8 → m ≡ over l p (row_words r) → (m ≡ over l i (pair_words (push_row (pair_at l i) r))) × PairFull (push_row (pair_at l i) r)
+  unfolding free_place
+  pushed r n w = go (eqb (get_or l i 0) 0) refl
+    where
+      go : (b : Bool) → eqb (get_or l i 0) 0 ≡ b → (m ≡ over l i (pair_words (push_row (pair_at l i) r))) × PairFull (push_row (pair_at l i) r)
+      go true q = push_first l m i r h (eqb-true (get_or l i 0) 0 q) n (w ∙ ap (λ (k : ℕ). over l k (row_words r)) (e ∙ ap (λ (b : Bool). cond b i (i + 12)) q))
+      go false q = push_second l m i r h (eqb-false (get_or l i 0) 0 q) n (w ∙ ap (λ (k : ℕ). over l k (row_words r)) (e ∙ ap (λ (b : Bool). cond b i (i + 12)) q))
+
+  pub noted : (a b c d : ℕ) → m ≡ over l p (a ∷ b ∷ c ∷ d ∷ []) → (m ≡ over l i (pair_words (push_numbers (pair_at l i) a b c d))) × PairFull (push_numbers (pair_at l i) a b c d)
+  unfolding free_place
+  noted a b c d w = go (eqb (get_or l i 0) 0) refl
+    where
+      go : (t : Bool) → eqb (get_or l i 0) 0 ≡ t → (m ≡ over l i (pair_words (push_numbers (pair_at l i) a b c d))) × PairFull (push_numbers (pair_at l i) a b c d)
+      go true q = note_first l m i a b c d h (eqb-true (get_or l i 0) 0 q) (w ∙ ap (λ (k : ℕ). over l k (a ∷ b ∷ c ∷ d ∷ [])) (e ∙ ap (λ (t : Bool). cond t i (i + 12)) q))
+      go false q = note_second l m i a b c d h (eqb-false (get_or l i 0) 0 q) (w ∙ ap (λ (k : ℕ). over l k (a ∷ b ∷ c ∷ d ∷ [])) (e ∙ ap (λ (t : Bool). cond t i (i + 12)) q))
 
 pub pop_last : (l m : List ℕ) (i : ℕ) (z : Row) → i + 24 ≤ length l → get_or l (i + 12) 0 ≡ 0 → z ≡ no_row → m ≡ over l i (row_words z) →
     (m ≡ over l i (pair_words (pop_row (pair_at l i)))) × PairFull (pop_row (pair_at l i))

@@ -1,6 +1,7 @@
 -- A device of the proofs: no public promise rests on it alone. A queue of a bench in numbers, its first message and its second.
-use Rattle.std.specs.Prelude.{ℕ, Bool, cond, eqb}
+use Rattle.std.specs.Prelude.{ℕ, ◌+◌, Bool, List, cond, eqb, get_or}
 use Rattle.numbers.specs.Types.{no_message_type}
+use Rattle.layout.specs.Places.{row_size}
 use Rattle.layout.specs.Blocks.{message_type}
 use Rattle.layout.specs.declared.rows.Row.{Row}
 use Rattle.layout.specs.declared.rows.Pair.{Pair}
@@ -9,6 +10,10 @@ use Rattle.layout.specs.Encode.{no_row, row}
 -- a queue has room while its second place is free
 unfoldable pub has_room : Pair → Bool
 has_room q = eqb (message_type q.b) no_message_type
+
+-- the first free place of a queue with room, which stands at a place of the words
+unfoldable pub free_place : List ℕ → ℕ → ℕ
+free_place l at = cond (eqb (get_or l at 0) no_message_type) at (at + row_size)
 
 -- a message put on a queue with room, at its first free place; the other place stays
 unfoldable pub push_row : Pair → Row → Pair

@@ -1,4 +1,5 @@
-// The numbers by which a bench's words say the home's phase, the directory's state and what a tile waits for.
+// The numbers by which a bench's words say the home's phase, the directory's state and what a tile waits for. Numbers and no enum: the
+// words are lent by C (docs/LAYOUT.md), and which of them are a bench is decided on every number that may stand there.
 
 // The home's phase: idle; waiting for memory load, for the owner, for invalidations (on behalf of a load, a store,
 // an eviction), for memory store.

@@ -10,7 +10,7 @@ pub mod places;
 mod queues;
 mod rows;
 
-pub use queues::{bare_row, has_room_at, pop_at, push_at, push_numbers_at, row_of};
+pub use queues::{BenchQueue, bare_row, has_room_at, pop_at, push_at, push_numbers_at, row_of};
 pub use rows::{
     HomeBlock, Pair, Row, TileBlock, read_eight, read_row, write_eight, write_four, write_row,
 };

@@ -1,4 +1,7 @@
 // Where the parts of a bench stand in its words (docs/LAYOUT.md): places in a row, in a tile's block and in the home's, and their sizes.
+ghost use Rattle.std.specs.Prelude.{◌≡◌, ◌<◌};
+ghost use Rattle.numbers.specs.Limits.{most_tiles};
+ghost use Rattle.layout.specs.Blocks.{tile_place};
 
 // A row: four numbers and eight words.
 pub const ROW_WORDS: usize = 12;
@@ -73,3 +76,11 @@ pub const HOME_TO_MEMORY: usize = 26;
 pub const HOME_FROM_MEMORY: usize = 50;
 
 pub const HOME_WORDS: usize = 74;
+
+// Where a tile's block stands: behind the home's and those of the tiles before it.
+pub fn tile_at(tile: u64) -> usize
+    requires { tile < most_tiles }
+    ensures { result ≡ tile_place tile }
+{
+    HOME_WORDS + TILE_WORDS * tile as usize
+}

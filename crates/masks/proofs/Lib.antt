@@ -1,2 +1,3 @@
 pub mod MaskLaws
 pub mod NextLaws
+pub mod TileLaws

@@ -66,22 +66,9 @@ in_it (suc n) i m h = go (has m i) refl h (in_it n (suc i) m)
     go true e h ih = e
     go false e h ih = ih h
 
-not_before : (n i m : ℕ) → i + n ≡ 64 → i ≤ first_in m i n
-unfolding first_in
-not_before zero i m h = omega arith
-not_before (suc n) i m h = go (has m i) (not_before n (suc i) m (omega arith))
-  where
-    go : (b : Bool) → suc i ≤ first_in m (suc i) n → i ≤ cond b i (first_in m (suc i) n)
-    go true ih = omega arith
-    go false ih = omega arith
-
 pub next_in : (m i : ℕ) → next m i < 64 → has m (next m i) ≡ true
 unfolding next
 next_in m i h = in_it (64 - i) i m h
-
-pub next_from : (m i : ℕ) → i ≤ 64 → i ≤ next m i
-unfolding next
-next_from m i h = not_before (64 - i) i m (omega arith)
 
 -- A walk over n tiles from tile i on, F, that passes over the tiles that are not in the mask, is the walk from the next tile on.
 skips : {X : Type 0} (F : ℕ → ℕ → X) (m n : ℕ) → n ≤ 64 → ((i k : ℕ) → has m i ≡ false → F i (suc k) ≡ F (suc i) k) → ((i j : ℕ) → F i 0 ≡ F j 0) → (c i : ℕ) → i + c ≡ 64 → F i (n - i) ≡ F (first_in m i c) (n - first_in m i c)

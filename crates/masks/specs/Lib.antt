@@ -1,2 +1,3 @@
 pub mod Mask
 pub mod Next
+pub mod Tiles
