@@ -8,18 +8,16 @@ use numbers::ports::{PORT_EAST, PORT_NORTH, PORT_PROCESSOR, PORT_SOUTH, PORT_WES
 fn port_listed(port: u64) -> bool
     ensures { result ≡ port_listed port }
 {
-    (port == PORT_PROCESSOR)
-        | (port == PORT_WEST)
-        | (port == PORT_SOUTH)
-        | (port == PORT_EAST)
-        | (port == PORT_NORTH)
+    matches!(
+        port,
+        PORT_PROCESSOR | PORT_WEST | PORT_SOUTH | PORT_EAST | PORT_NORTH
+    )
 }
 
 // 14: the destination's port is listed, and on three header flits the source's.
+#[tactic(auto, unfolding(flit_rules::specs::Rules::ports_listed))]
 pub fn ports_listed(row: TypeRow, header: Header) -> bool
     ensures { result ≡ ports_listed row header }
 {
-    let to = header.to;
-    let from = header.from;
-    port_listed(to.port) & (!row.three | port_listed(from.port))
+    port_listed(header.to.port) && (!row.three || port_listed(header.from.port))
 }

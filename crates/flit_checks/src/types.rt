@@ -2,19 +2,18 @@
 ghost use Rattle.std.specs.Prelude.{◌≡◌};
 ghost use Rattle.flit_rules.specs.Rules.{in_table, length_allowed};
 
-use flit_rules::TypeRow;
-use numbers::queues::NO_QUEUE;
+use flit_rules::{NO_NETWORK, TypeRow};
 
 // 11: the type is in the table.
 pub fn in_table(row: TypeRow) -> bool
     ensures { result ≡ in_table row }
 {
-    row.network != NO_QUEUE
+    row.network != NO_NETWORK
 }
 
 // 12: the length, which counts the flits that follow the first, is one of the type's.
 pub fn length_allowed(row: TypeRow, following: u64) -> bool
     ensures { result ≡ length_allowed row following }
 {
-    (following == row.short) | (following == row.long)
+    following == row.short || following == row.long
 }

@@ -18,6 +18,7 @@ fn node_of(flit: u64) -> Node
 }
 
 // The fields of three header flits.
+#[tactic(auto, unfolding(flit_rules::specs::Words::header_of_flits))]
 pub fn header_of(flit1: u64, flit2: u64, flit3: u64) -> Header
     ensures { result ≡ header_of_flits flit1 flit2 flit3 }
 {

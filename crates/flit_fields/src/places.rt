@@ -1,5 +1,6 @@
 // Where each field stands in its flit: the place of its lowest bit, its width in bits, and the least number that is too wide for it
-// (01, 'Flit words', in its order).
+// (01, 'Flit words', in its order). Place and width stay two numbers, as the definitions have them: must-fail/place_of_the_tag changes one
+// alone.
 
 // ---- flit 1; a node stands in flit 3 at the same places
 

@@ -9,44 +9,45 @@ use flit_rules::{Header, Node};
 fn set_node(node: Node, flit: u64) -> u64
     ensures { result ≡ set_node node flit }
 {
-    let a = bits::put(flit, places::PORT, places::PORT_BITS, node.port);
-    let b = bits::put(a, places::Y, places::Y_BITS, node.y);
-    let c = bits::put(b, places::X, places::X_BITS, node.x);
-    bits::put(c, places::CHIP, places::CHIP_BITS, node.chip)
+    let flit = bits::put(flit, places::PORT, places::PORT_BITS, node.port);
+    let flit = bits::put(flit, places::Y, places::Y_BITS, node.y);
+    let flit = bits::put(flit, places::X, places::X_BITS, node.x);
+    bits::put(flit, places::CHIP, places::CHIP_BITS, node.chip)
 }
 
 // Of a message in which so many flits follow the first: 01's length.
+#[tactic(auto, unfolding(flit_rules::specs::Words::flit1_of))]
 pub fn flit1(header: Header, following: u64) -> u64
     ensures { result ≡ flit1_of header following }
 {
-    let a = bits::put(0, places::LAST, places::LAST_BITS, header.last);
-    let b = bits::put(
-        a,
+    let flit = bits::put(0, places::LAST, places::LAST_BITS, header.last);
+    let flit = bits::put(
+        flit,
         places::ADDRESS54,
         places::ADDRESS54_BITS,
         header.address54,
     );
-    let c = bits::put(b, places::MISS, places::MISS_BITS, header.miss);
-    let d = bits::put(c, places::STATE, places::STATE_BITS, header.state);
-    let e = bits::put(d, places::TAG, places::TAG_BITS, header.tag);
-    let f = bits::put(e, places::OPCODE, places::OPCODE_BITS, header.opcode);
-    let g = bits::put(f, places::LENGTH, places::LENGTH_BITS, following);
-    let to = header.to;
-    set_node(to, g)
+    let flit = bits::put(flit, places::MISS, places::MISS_BITS, header.miss);
+    let flit = bits::put(flit, places::STATE, places::STATE_BITS, header.state);
+    let flit = bits::put(flit, places::TAG, places::TAG_BITS, header.tag);
+    let flit = bits::put(flit, places::OPCODE, places::OPCODE_BITS, header.opcode);
+    let flit = bits::put(flit, places::LENGTH, places::LENGTH_BITS, following);
+    set_node(header.to, flit)
 }
 
+#[tactic(auto, unfolding(flit_rules::specs::Words::flit2_of))]
 pub fn flit2(header: Header) -> u64
     ensures { result ≡ flit2_of header }
 {
-    let a = bits::put(0, places::SIZE, places::SIZE_BITS, header.size);
-    let b = bits::put(a, places::ICACHE, places::ICACHE_BITS, header.icache);
-    let c = bits::put(b, places::VECTOR, places::VECTOR_BITS, header.vector);
-    bits::put(c, places::ADDRESS, places::ADDRESS_BITS, header.address)
+    let flit = bits::put(0, places::SIZE, places::SIZE_BITS, header.size);
+    let flit = bits::put(flit, places::ICACHE, places::ICACHE_BITS, header.icache);
+    let flit = bits::put(flit, places::VECTOR, places::VECTOR_BITS, header.vector);
+    bits::put(flit, places::ADDRESS, places::ADDRESS_BITS, header.address)
 }
 
+#[tactic(auto, unfolding(flit_rules::specs::Words::flit3_of))]
 pub fn flit3(header: Header) -> u64
     ensures { result ≡ flit3_of header }
 {
-    let from = header.from;
-    set_node(from, 0)
+    set_node(header.from, 0)
 }

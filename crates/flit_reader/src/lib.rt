@@ -7,4 +7,4 @@ mod reading;
 mod refusal;
 
 pub use data_part::{data_words, data_words_at};
-pub use reading::{read, read_answer, read_at};
+pub use reading::{read, read_at};

@@ -1,5 +1,5 @@
 -- What an accepted front message keeps, and that a refused one gives nothing. Assumes nothing.
-use mathlib.Core.Path.{◌≡◌, refl, sym, ap, ◌∙◌, subst}
+use mathlib.Core.Path.{◌≡◌, refl, sym, ap, subst}
 use mathlib.Core.Logic.{◌⊎◌, ⊎_elim}
 use mathlib.Core.Bool.{Bool, true, false, cond, ◌&&◌}
 use mathlib.Core.List.{List, [], ◌∷◌}
@@ -7,18 +7,17 @@ use Prim.Native.Nat.{ℕ, zero, suc, ◌+◌, ◌-◌, ◌≤◌, ◌<◌}
 use native.Mathlib.Nat.{le_refl, le_of_eq}
 use native.Mathlib.Omega.{arith}
 use lib.Dec.{T, ltb, eqb}
-use lib.ListN.{length, get_or, take, drop, length-take, length-drop}
+use lib.ListN.{length, take, drop, length-take, length-drop}
 use lib.Seq.{take_all}
 use borrow.Author.Tests.{ltb-true, eqb-true, eqb-false, ne_eqb, eq-eqb}
-use Rattle.flit_rules.specs.declared.Header.{Header}
-use Rattle.flit_rules.specs.Words.{length_of, opcode_of, header_of_flits}
-use Rattle.flit_rules.specs.declared.TypeRow.{TypeRow}
-use Rattle.flit_rules.specs.Table.{row_of, header_extra}
+use Rattle.numbers.specs.declared.refusals.Refusal.{Refusal}
+use Rattle.numbers.specs.Refusals.{refusal_number}
+use Rattle.flit_rules.specs.Words.{length_of}
+use Rattle.flit_rules.specs.Table.{header_extra}
 use Rattle.flit_rules.specs.Rules.{in_table, length_allowed, ports_listed, reserved_clear, fields_allowed}
 use Rattle.flit_rules.proofs.Tests.{and_left, and_right}
 use Rattle.flit_rules.proofs.TableLaws.{row_lengths}
-use Rattle.flit_rules.specs.declared.Read.{Read}
-use Rattle.flit_rules.specs.Reading.{lowest, read_refusals, front_flit1, front_row, front_flit2, front_flit3, front_header, read_refusal, read_accepted, read_refused, read_answer, read_of, data_of}
+use Rattle.flit_rules.specs.Reading.{ReadAnswer, lowest, read_refusals, front_flit1, front_row, front_flit2, front_flit3, front_header, read_refusal, read_accepted, read_refused, read_of, data_of}
 
 -- ---- the lowest number is 0 exactly where every test holds
 
@@ -84,7 +83,7 @@ pub data_refused : (s : List ℕ) → (read_refusal s ≡ 0 → ⊥) → data_of
 unfolding data_of
 data_refused s e = rw (read_refused_lem s e)
 
-pub read_cases : (P : Read → Type 0) (s : List ℕ)
+pub read_cases : (P : ReadAnswer → Type 0) (s : List ℕ)
     → (read_refusal s ≡ 0 → P (read_accepted (front_header s) (length_of (front_flit1 s) + 1) (header_extra (front_row s) + 1)))
     → ((read_refusal s ≡ 0 → ⊥) → P (read_refused (read_refusal s)))
     → P (read_of s)
@@ -133,47 +132,10 @@ extra_le false = omega arith
 pub rest_part : (s : List ℕ) (at : ℕ) → take (length s - at) (drop at s) ≡ drop at s
 rest_part s at = take_all (length s - at) (drop at s) (le_of_eq (length-drop at s))
 
-pub read_none : read_of [] ≡ read_refused 10
-unfolding read_of read_refusal
-read_none = refl
-
-pub data_none : data_of [] ≡ []
-unfolding data_of read_of read_refusal
-data_none = refl
-
 -- an accepted message uses a flit at least
 pub used_pos : (s : List ℕ) → read_refusal s ≡ 0 → 0 < (read_of s).used
-used_pos s e = subst (λ (r : Read). 0 < r.used) (sym (read_accepted_lem s e)) (omega arith)
+used_pos s e = subst (λ (r : ReadAnswer). 0 < r.used) (sym (read_accepted_lem s e)) (omega arith)
 
--- ---- the code's numbers, one after the other, are the definitions'
-
-pub read_refusal_lem : (row : TypeRow) (h : Header) (count f1 f2 f3 : ℕ) {len x n16 n15 n14 n13 n12 n11 n10 : ℕ} {k l p c a : Bool}
-    → len ≡ length_of f1 → x ≡ header_extra row → k ≡ in_table row → l ≡ length_allowed row len → p ≡ ports_listed row h → c ≡ reserved_clear row f1 f2 f3
-    → a ≡ fields_allowed row (ltb x len) h → n16 ≡ cond a 0 16 → n15 ≡ cond c n16 15 → n14 ≡ cond p n15 14 → n13 ≡ cond (ltb len count) n14 13
-    → n12 ≡ cond l n13 12 → n11 ≡ cond k n12 11 → n10 ≡ cond (ltb 0 count) n11 10
-    → n10 ≡ lowest (read_refusals row h count f1 f2 f3)
-read_refusal_lem row h count f1 f2 f3 len x k l p c a n16 n15 n14 n13 n12 n11 n10 =
-    let a' = a ∙ (λ i. fields_allowed row (ltb (x i) (len i)) h) in
-    let l' = l ∙ ap (length_allowed row) len in
-    let from16 = n16 ∙ (λ i. cond (a' i) 0 16) in
-    let from15 = n15 ∙ (λ i. cond (c i) (from16 i) 15) in
-    let from14 = n14 ∙ (λ i. cond (p i) (from15 i) 14) in
-    let from13 = n13 ∙ (λ i. cond (ltb (len i) count) (from14 i) 13) in
-    let from12 = n12 ∙ (λ i. cond (l' i) (from13 i) 12) in
-    let from11 = n11 ∙ (λ i. cond (k i) (from12 i) 11) in
-    n10 ∙ ap (λ (n : ℕ). cond (ltb 0 count) n 10) from11
-
-pub read_done : (s : List ℕ) {f1 op g2 f2 g3 f3 n len x : ℕ} {row : TypeRow} {h : Header} {r : Read}
-    → f1 ≡ front_flit1 s → op ≡ opcode_of f1 → row ≡ row_of op → g2 ≡ get_or s 1 0 → f2 ≡ cond row.three g2 0 → g3 ≡ get_or s 2 0 → f3 ≡ cond row.three g3 0
-    → h ≡ header_of_flits f1 f2 f3 → n ≡ lowest (read_refusals row h (length s) f1 f2 f3) → len ≡ length_of f1 → x ≡ header_extra row → r ≡ read_answer n h (len + 1) (x + 1)
-    → r ≡ read_of s
-unfolding read_refusal read_of
-read_done s f1 op row g2 f2 g3 f3 h n len x r =
-    let row' = row ∙ ap row_of (op ∙ ap opcode_of f1) in
-    let f2' = f2 ∙ (λ i. cond (row' i).three (g2 i) 0) in
-    let f3' = f3 ∙ (λ i. cond (row' i).three (g3 i) 0) in
-    let h' = h ∙ (λ i. header_of_flits (f1 i) (f2' i) (f3' i)) in
-    let n' = n ∙ (λ i. lowest (read_refusals (row' i) (h' i) (length s) (f1 i) (f2' i) (f3' i))) in
-    let len' = len ∙ ap length_of f1 in
-    let x' = x ∙ ap header_extra row' in
-    r ∙ (λ i. read_answer (n' i) (h' i) (len' i + 1) (x' i + 1))
+-- a refusal of the code is a refusal: no number is 0
+pub refused_lem : (r : Refusal) → refusal_number r ≡ 0 → ⊥
+refused_lem r e = grind (arith)

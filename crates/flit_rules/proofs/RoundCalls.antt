@@ -1,21 +1,19 @@
 -- The round trips carried to what the calls answer and leave. Assumes nothing.
 use mathlib.Core.Path.{◌≡◌, sym, ap, ◌∙◌}
-use mathlib.Core.Bool.{false, cond}
+use mathlib.Core.Bool.{cond}
 use mathlib.Core.List.{List, ◌++◌}
 use Prim.Native.Nat.{ℕ, ◌+◌, ◌≤◌, ◌<◌, ◌^◌}
 use native.Mathlib.Omega.{arith}
 use lib.Dec.{eqb}
 use lib.ListN.{length, get_or, drop}
-use borrow.Author.Tests.{eq-eqb, ne_eqb}
+use borrow.Author.Tests.{eq-eqb}
 use Rattle.lists.specs.Over.{over}
 use Rattle.lists.proofs.OverLaws.{at_place}
 use Rattle.flit_rules.specs.declared.Header.{Header}
-use Rattle.flit_rules.specs.declared.Read.{Read}
-use Rattle.flit_rules.specs.declared.Written.{Written}
 use Rattle.flit_rules.specs.Words.{header_of_flits}
 use Rattle.flit_rules.specs.Table.{row_of, header_extra}
-use Rattle.flit_rules.specs.Reading.{read_refusal, read_accepted, read_answer, read_of, data_of}
-use Rattle.flit_rules.specs.Writing.{write_refusal, flits_of, written_of, buffer_of}
+use Rattle.flit_rules.specs.Reading.{ReadAnswer, read_refusal, read_accepted, read_of, data_of}
+use Rattle.flit_rules.specs.Writing.{WriteAnswer, write_refusal, flits_of, written_of, buffer_of}
 use Rattle.flit_rules.specs.RoundTrips.{copy_refusal, copied_of, copy_buffer, echo_of}
 use Rattle.flit_rules.proofs.ReadLaws.{read_accepted_lem, refusal_of, data_length}
 use Rattle.flit_rules.proofs.WriteLaws.{write_fits}
@@ -40,19 +38,11 @@ module _ (s b : List ℕ) (at : ℕ) where
   unfolding buffer_of copy_buffer
   buffer_copied word z = λ i. cond (eqb (copy_refusal_lem z i) 0) (over b at (read_write s z word i)) b
 
-  pub copy_refused : {r : Read} → r ≡ read_of s → (r.refusal ≡ 0 → ⊥)
-      → (record { refusal = r.refusal; flits = 0 } ≡ copied_of s (length b) at) × (b ≡ copy_buffer s b at)
-  unfolding copied_of copy_buffer copy_refusal
-  copy_refused {r} e n =
-      let q : r.refusal ≡ read_refusal s = ap (λ (x : Read). x.refusal) e ∙ refusal_of s in
-      let z : eqb (read_refusal s) 0 ≡ false = ap (λ (k : ℕ). eqb k 0) (sym q) ∙ ne_eqb r.refusal 0 n in
-      (rw (z, z, q), rw (z, z))
-
-  pub copy_done : (word : (k : ℕ) → get_or s k 0 < 2 ^ 64) {r : Read} {ws b' : List ℕ} {w : Written} → r ≡ read_of s → r.refusal ≡ 0 → ws ≡ data_of s
+  pub copy_done : (word : (k : ℕ) → get_or s k 0 < 2 ^ 64) {r : ReadAnswer} {ws b' : List ℕ} {w : WriteAnswer} → r ≡ read_of s → r.refusal ≡ 0 → ws ≡ data_of s
       → (w ≡ written_of r.header (length ws) (length b) at) × (b' ≡ buffer_of r.header ws b at)
       → (w ≡ copied_of s (length b) at) × (b' ≡ copy_buffer s b at)
   copy_done word e z d done =
-      let q : read_refusal s ≡ 0 = sym (refusal_of s) ∙ sym (ap (λ (x : Read). x.refusal) e) ∙ z in (
+      let q : read_refusal s ≡ 0 = sym (refusal_of s) ∙ sym (ap (λ (x : ReadAnswer). x.refusal) e) ∙ z in (
         done.0 ∙ (λ i. written_of (e i).header (length (d i)) (length b) at) ∙ written_copied q,
         done.1 ∙ (λ i. buffer_of (e i).header (d i) b at) ∙ buffer_copied word q,
       )
@@ -74,20 +64,14 @@ module _ (h : Header) (ws b : List ℕ) (at : ℕ) (zero : write_refusal h (leng
   pub data_back : data_of (drop at (buffer_of h ws b at)) ≡ ws
   data_back = ap data_of there ∙ write_data h ws (drop (at + length (flits_of h ws)) b) (length b) at zero
 
-module _ (h : Header) (ws b : List ℕ) (at : ℕ) {w : Written} {b' : List ℕ} (done : (w ≡ written_of h (length ws) (length b) at) × (b' ≡ buffer_of h ws b at)) where
+module _ (h : Header) (ws b : List ℕ) (at : ℕ) {w : WriteAnswer} {b' : List ℕ} (done : (w ≡ written_of h (length ws) (length b) at) × (b' ≡ buffer_of h ws b at)) where
   number : w.refusal ≡ write_refusal h (length ws) (length b) at
   unfolding written_of
-  number = ap (λ (x : Written). x.refusal) done.0
+  number = ap (λ (x : WriteAnswer). x.refusal) done.0
 
-  pub echo_done : {r : Read} → w.refusal ≡ 0 → r ≡ read_of (drop at b') → r ≡ echo_of h (length ws) (length b) at
+  pub echo_done : {r : ReadAnswer} → w.refusal ≡ 0 → r ≡ read_of (drop at b') → r ≡ echo_of h (length ws) (length b) at
   unfolding echo_of
   echo_done z e =
       let q : write_refusal h (length ws) (length b) at ≡ 0 = sym number ∙ z in
       rw (eq-eqb (write_refusal h (length ws) (length b) at) 0 q)
       (e ∙ ap (λ (x : List ℕ). read_of (drop at x)) done.1 ∙ read_back h ws b at q)
-
-  pub echo_refused : {r : Read} → (w.refusal ≡ 0 → ⊥) → r ≡ read_answer w.refusal h 0 0 → r ≡ echo_of h (length ws) (length b) at
-  unfolding echo_of
-  echo_refused n e =
-      let z : eqb (write_refusal h (length ws) (length b) at) 0 ≡ false = ap (λ (k : ℕ). eqb k 0) (sym number) ∙ ne_eqb w.refusal 0 n in
-      rw z (e ∙ ap (λ (k : ℕ). read_answer k h 0 0) number ∙ rw z)

@@ -1,11 +1,11 @@
 -- A device of the proofs: no public promise rests on it alone.
 -- An entry of the code's table: a row as a number with a hexadecimal digit for each column.
-use Rattle.std.specs.Prelude.{ℕ, ◌/◌, ◌%◌, ◌^◌, eqb}
+use Rattle.std.specs.Prelude.{ℕ, ◌*◌, ◌/◌, ◌%◌, ◌^◌, eqb}
 use Rattle.flit_rules.specs.declared.TypeRow.{TypeRow}
 
 -- the digit at place k; the lowest, at 0, is e % 16
 abbrev pub digit : ℕ → ℕ → ℕ
-digit e k = e / 16 ^ k % 16
+digit e k = e / 2 ^ (4 * k) % 16
 
 unfoldable pub row_of_entry : ℕ → TypeRow
 row_of_entry e =
@@ -25,5 +25,5 @@ row_of_entry e =
       high = digit e 3;
       miss = digit e 2;
       address54 = digit e 1;
-      last = e % 16;
+      last = digit e 0;
     }

@@ -1,6 +1,7 @@
 -- Reading the front message of lent flits (01, 'Flit words', 'Refusal numbers').
-use Rattle.std.specs.Prelude.{Bool, cond, List, [], ◌∷◌, ℕ, ◌+◌, ◌-◌, eqb, ltb, length, get_or, take, drop}
-use Rattle.numbers.specs.Refusals.{no_refusal, no_flit_refusal, unknown_type_refusal, wrong_length_refusal, flits_missing_refusal, unknown_port_refusal, reserved_set_refusal, bad_field_refusal}
+use Rattle.std.specs.Prelude.{Bool, cond, List, [], ◌∷◌, ℕ, ◌+◌, ◌-◌, eqb, ltb, length, get_or, take, drop, Result, Ok, Err}
+use Rattle.numbers.specs.declared.refusals.Refusal.{Refusal}
+use Rattle.numbers.specs.Refusals.{refusal_number, no_refusal, no_flit_refusal, unknown_type_refusal, wrong_length_refusal, flits_missing_refusal, unknown_port_refusal, reserved_set_refusal, bad_field_refusal}
 use Rattle.flit_rules.specs.declared.Node.{Node}
 use Rattle.flit_rules.specs.declared.Header.{Header}
 use Rattle.flit_rules.specs.declared.TypeRow.{TypeRow}
@@ -46,6 +47,13 @@ read_refusals row h count flit1 flit2 flit3 =
 unfoldable pub read_refusal : List ℕ → ℕ
 read_refusal s = lowest (read_refusals (front_row s) (front_header s) (length s) (front_flit1 s) (front_flit2 s) (front_flit3 s))
 
+-- what a read answers, in numbers
+pub record ReadAnswer : Type 0 where
+  pub refusal : ℕ
+  pub header : Header
+  pub used : ℕ
+  pub start : ℕ
+
 -- a refusal gives its number, and no fields, count or data
 abbrev pub no_node : Node
 no_node = record { chip = 0; x = 0; y = 0; port = 0 }
@@ -67,19 +75,29 @@ no_header =
       from = no_node;
     }
 
-abbrev pub read_refused : ℕ → Read
+abbrev pub read_refused : ℕ → ReadAnswer
 read_refused n = record { refusal = n; header = no_header; used = 0; start = 0 }
 
 -- the flits used, of which the data start behind the header flits
-abbrev pub read_accepted : Header → ℕ → ℕ → Read
+abbrev pub read_accepted : Header → ℕ → ℕ → ReadAnswer
 read_accepted h used start = record { refusal = no_refusal; header = h; used = used; start = start }
 
-abbrev pub read_answer : ℕ → Header → ℕ → ℕ → Read
+abbrev pub read_answer : ℕ → Header → ℕ → ℕ → ReadAnswer
 read_answer n h used start = cond (eqb n no_refusal) (read_accepted h used start) (read_refused n)
 
-unfoldable pub read_of : List ℕ → Read
+unfoldable pub read_of : List ℕ → ReadAnswer
 read_of s = read_answer (read_refusal s) (front_header s) (length_of (front_flit1 s) + 1) (header_extra (front_row s) + 1)
 
 -- the data: the flits used from the start on, or none
 unfoldable pub data_of : List ℕ → List ℕ
 data_of s = take ((read_of s).used - (read_of s).start) (drop (read_of s).start s)
+
+-- ---- what the code answers, in those numbers
+
+abbrev pub told_refusal : {A : Type 0} → Result A Refusal → ℕ
+told_refusal (Ok x) = no_refusal
+told_refusal (Err r) = refusal_number r
+
+abbrev pub told_read : Result Read Refusal → ReadAnswer
+told_read (Ok r) = read_accepted r.header r.used r.start
+told_read (Err r) = read_refused (refusal_number r)

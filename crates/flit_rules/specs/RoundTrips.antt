@@ -4,11 +4,9 @@ use Rattle.bits.specs.Field.{word_bits}
 use Rattle.lists.specs.Over.{over}
 use Rattle.numbers.specs.Refusals.{no_refusal, no_room_refusal}
 use Rattle.flit_rules.specs.declared.Header.{Header}
-use Rattle.flit_rules.specs.declared.Read.{Read}
-use Rattle.flit_rules.specs.declared.Written.{Written}
 use Rattle.flit_rules.specs.Table.{row_of, header_extra}
-use Rattle.flit_rules.specs.Reading.{read_of, data_of, read_refusal, read_accepted, read_refused}
-use Rattle.flit_rules.specs.Writing.{write_refusal, flits_of}
+use Rattle.flit_rules.specs.Reading.{ReadAnswer, read_of, data_of, read_refusal, read_accepted, read_refused}
+use Rattle.flit_rules.specs.Writing.{WriteAnswer, write_refusal, flits_of}
 
 -- ---- the calls
 
@@ -17,7 +15,7 @@ unfoldable pub copy_refusal : List ℕ → ℕ → ℕ → ℕ
 copy_refusal s room at =
     cond (eqb (read_refusal s) no_refusal) (cond (leb (at + (read_of s).used) room) no_refusal no_room_refusal) (read_refusal s)
 
-unfoldable pub copied_of : List ℕ → ℕ → ℕ → Written
+unfoldable pub copied_of : List ℕ → ℕ → ℕ → WriteAnswer
 copied_of s room at =
     record { refusal = copy_refusal s room at; flits = cond (eqb (copy_refusal s room at) no_refusal) (read_of s).used 0 }
 
@@ -26,7 +24,7 @@ unfoldable pub copy_buffer : List ℕ → List ℕ → ℕ → List ℕ
 copy_buffer s b at = cond (eqb (copy_refusal s (length b) at) no_refusal) (over b at (take (read_of s).used s)) b
 
 -- a message written reads back as itself
-unfoldable pub echo_of : Header → ℕ → ℕ → ℕ → Read
+unfoldable pub echo_of : Header → ℕ → ℕ → ℕ → ReadAnswer
 echo_of h count room at =
     cond (eqb (write_refusal h count room at) no_refusal)
     (read_accepted h (header_extra (row_of h.opcode) + count + 1) (header_extra (row_of h.opcode) + 1))

@@ -1,6 +1,6 @@
 -- Flit words (01, from 001 tables 1 to 8): where each field of a message stands. A flit is 64 bits.
 -- `Header` holds the fields of any message; 01's type is `opcode`, its address_5_4 `address54`, the destination `to`, the source `from`.
-use Rattle.std.specs.Prelude.{ℕ, ◌+◌, ◌-◌}
+use Rattle.std.specs.Prelude.{ℕ, ◌+◌, ◌-◌, List, [], ◌∷◌, get_or}
 use Rattle.bits.specs.Field.{cut, put}
 use Rattle.flit_rules.specs.declared.Node.{Node}
 use Rattle.flit_rules.specs.declared.Header.{Header}
@@ -101,3 +101,28 @@ icache_bits = 1
 
 abbrev pub size_bits : ℕ
 size_bits = 3
+
+-- ---- the 18 fields of a message as words, in the order of `Header`
+
+abbrev pub words_of_header : Header → List ℕ
+words_of_header h =
+    h.opcode ∷ h.tag ∷ h.to.chip ∷ h.to.x ∷ h.to.y ∷ h.to.port
+    ∷ h.state ∷ h.miss ∷ h.address54 ∷ h.last ∷ h.address ∷ h.vector ∷ h.icache ∷ h.size
+    ∷ h.from.chip ∷ h.from.x ∷ h.from.y ∷ h.from.port ∷ []
+
+abbrev pub header_of_words : List ℕ → Header
+header_of_words l =
+    record {
+      opcode = get_or l 0 0;
+      tag = get_or l 1 0;
+      to = record { chip = get_or l 2 0; x = get_or l 3 0; y = get_or l 4 0; port = get_or l 5 0 };
+      state = get_or l 6 0;
+      miss = get_or l 7 0;
+      address54 = get_or l 8 0;
+      last = get_or l 9 0;
+      address = get_or l 10 0;
+      vector = get_or l 11 0;
+      icache = get_or l 12 0;
+      size = get_or l 13 0;
+      from = record { chip = get_or l 14 0; x = get_or l 15 0; y = get_or l 16 0; port = get_or l 17 0 };
+    }

@@ -1,4 +1,4 @@
-// The table by type number. Its rule, that each entry is the row that 01's lines give that type, is proved over all entries at once.
+// The table by type number: each entry is the row that 01's lines give that type.
 ghost use Rattle.std.specs.Prelude.{◌≡◌};
 ghost use Rattle.flit_rules.specs.Table.{row_of};
 ghost use Rattle.flit_rules.specs.Columns.{row_of_entry};
@@ -10,7 +10,9 @@ use numbers::types::{
 
 // An entry is a number with a hexadecimal digit for each column, in the order of `TypeRow`:
 //   network, three, short, long; least, most, vector, icache; line, options, low, full; high, miss, address54, last.
-// One number by one `match` is a load from memory that is laid out once; an array of rows would be laid on the stack whole at each use.
+// One number by one `match` is a load from memory that is laid out once; an array of rows would be laid on the stack whole at each use, and
+// a match of rows is a jump by type (docs/DECISIONS.md, Flits: both were tried, and were slower).
+#[tactic(auto, unfolding(flit_rules::specs::Table::row_of, flit_rules::specs::Columns::row_of_entry))]
 pub fn entry(opcode: u64) -> u64
     ensures { row_of_entry result ≡ row_of opcode }
 {

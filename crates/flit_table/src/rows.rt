@@ -1,31 +1,40 @@
 // The row of a type, from its entry in the table.
-ghost use Rattle.std.specs.Prelude.{◌≡◌};
+ghost use Rattle.std.specs.Prelude.{◌≡◌, ◌<◌};
 ghost use Rattle.flit_rules.specs.Table.{row_of};
-ghost use Rattle.flit_rules.specs.Columns.{row_of_entry};
+ghost use Rattle.flit_rules.specs.Columns.{digit, row_of_entry};
 
 use flit_rules::TypeRow;
 
-// The row that an entry says.
+// The hexadecimal digit of an entry at a place, from the lowest up.
+fn digit(entry: u64, place: u32) -> u64
+    requires { place < 16 }
+    ensures { result ≡ digit entry place }
+{
+    (entry >> (4 * place)) % 16
+}
+
+// The row that an entry says. No From<u64> for TypeRow: of all numbers only the entries of the table say a row.
+#[tactic(auto, unfolding(flit_rules::specs::Columns::row_of_entry))]
 fn row_of_entry(entry: u64) -> TypeRow
     ensures { result ≡ row_of_entry entry }
 {
     TypeRow {
-        network: entry / 0x1000_0000_0000_0000 % 16,
-        three: entry / 0x100_0000_0000_0000 % 16 == 1,
-        short: entry / 0x10_0000_0000_0000 % 16,
-        long: entry / 0x1_0000_0000_0000 % 16,
-        least: entry / 0x1000_0000_0000 % 16,
-        most: entry / 0x100_0000_0000 % 16,
-        vector: entry / 0x10_0000_0000 % 16,
-        icache: entry / 0x1_0000_0000 % 16,
-        line: entry / 0x1000_0000 % 16 == 1,
-        options: entry / 0x100_0000 % 16 == 1,
-        low: entry / 0x10_0000 % 16,
-        full: entry / 0x1_0000 % 16,
-        high: entry / 0x1000 % 16,
-        miss: entry / 0x100 % 16,
-        address54: entry / 0x10 % 16,
-        last: entry % 16,
+        network: digit(entry, 15),
+        three: digit(entry, 14) == 1,
+        short: digit(entry, 13),
+        long: digit(entry, 12),
+        least: digit(entry, 11),
+        most: digit(entry, 10),
+        vector: digit(entry, 9),
+        icache: digit(entry, 8),
+        line: digit(entry, 7) == 1,
+        options: digit(entry, 6) == 1,
+        low: digit(entry, 5),
+        full: digit(entry, 4),
+        high: digit(entry, 3),
+        miss: digit(entry, 2),
+        address54: digit(entry, 1),
+        last: digit(entry, 0),
     }
 }
 

@@ -1,27 +1,38 @@
 // The lowest refusal of a message to write.
 ghost use Rattle.std.specs.Prelude.{◌≡◌, ◌<◌, ◌^◌};
-ghost use Rattle.flit_rules.specs.Reading.{lowest};
+ghost use Rattle.flit_rules.specs.Reading.{lowest, told_refusal};
 ghost use Rattle.flit_rules.specs.Writing.{write_refusals};
 
-use bits::select;
-use flit_rules::{EXTRA_FLITS, Header, TypeRow};
-use numbers::refusals::{ACCEPTED, BAD_FIELD, NO_ROOM, UNKNOWN_PORT, UNKNOWN_TYPE, WRONG_LENGTH};
+use flit_rules::{Header, TypeRow};
+use numbers::refusals::Refusal;
 
-// The refusal of a message with `count` data words, of which a slice has fewer than 2 ^ 60, at a place of a buffer of `room` flits.
-pub fn write_refusal(row: TypeRow, header: Header, count: usize, room: usize, at: usize) -> u64
+// Is a message with `count` data words, of which a slice has fewer than 2 ^ 60, refused at a place of a buffer of `room` flits?
+// The count alone, since the words are not looked at: the definition `write_refusals` has it so.
+pub fn check_message(
+    row: TypeRow,
+    header: Header,
+    count: usize,
+    room: usize,
+    at: usize,
+) -> Result<(), Refusal>
     requires { count < 2 ^ 60 }
-    ensures { result ≡ lowest (write_refusals row header count room at) }
+    ensures { told_refusal result ≡ lowest (write_refusals row header count room at) }
 {
-    let following = select(row.three, EXTRA_FLITS, 0) + count as u64;
-    let n = following + 1;
-    let known = flit_checks::in_table(row);
-    let long = flit_checks::length_allowed(row, following);
-    let ports = flit_checks::ports_listed(row, header);
-    let allowed = flit_checks::fields_allowed(row, 0 < count, header);
-    let inside = lists::room(room, at, n as usize);
-    let from17 = select(inside, ACCEPTED, NO_ROOM);
-    let from16 = select(allowed, from17, BAD_FIELD);
-    let from14 = select(ports, from16, UNKNOWN_PORT);
-    let from12 = select(long, from14, WRONG_LENGTH);
-    select(known, from12, UNKNOWN_TYPE)
+    let following = row.extra() + count as u64;
+    if !flit_checks::in_table(row) {
+        return Err(Refusal::UnknownType);
+    }
+    if !flit_checks::length_allowed(row, following) {
+        return Err(Refusal::WrongLength);
+    }
+    if !flit_checks::ports_listed(row, header) {
+        return Err(Refusal::UnknownPort);
+    }
+    if !flit_checks::fields_allowed(row, 0 < count, header) {
+        return Err(Refusal::BadField);
+    }
+    if !lists::room(room, at, (following + 1) as usize) {
+        return Err(Refusal::NoRoom);
+    }
+    Ok(())
 }

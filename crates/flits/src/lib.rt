@@ -9,7 +9,7 @@ pub mod walker;
 
 pub use flit_fields::places::ADDRESS_LIMIT;
 pub use flit_reader::{data_words, data_words_at, read, read_at};
-pub use flit_rules::{EXTRA_FLITS, Header, MOST_FLITS, Node, Read, TypeRow, Written};
+pub use flit_rules::{EXTRA_FLITS, FIELDS, Header, MOST_FLITS, Node, Read, TypeRow};
 pub use flit_table::{network, type_row};
 pub use flit_writer::write;
 pub use rounds::{copy, echo};

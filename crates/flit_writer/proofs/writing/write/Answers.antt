@@ -1,46 +1,20 @@
-use native.Mathlib.Omega.{arith}
-use lib.ListN.{length-take, length-drop}
-use Rattle.flit_rules.proofs.WriteLaws.{write_room, write_done, write_refused_lem}
+use mathlib.Core.Path.{refl}
+use Rattle.std.proofs.Common.{arith}
+use Rattle.std.proofs.lemmas.Grind.{common_steps}
+use Rattle.flit_rules.specs.Writing.{write_refusal, written_of, buffer_of}
+use Rattle.flit_rules.proofs.ReadLaws.{refused_lem}
+use Rattle.flit_rules.proofs.WriteLaws.{write_done}
 use Rattle.flit_writer.proofs.writing.write.Goals as goal
 
-pub overflow_add-following : goal.overflow_add-following
-overflow_add-following c =
-    let l = write_room c.args.header c.args.words.now c.args.buffer.now c.args.at c.type_row-row.ensures c.write_refusal-refusal.ensures c.if-refusal-eq-ACCEPTED.true in
-    omega (arith, c.select.ensures)
+pub returns-in_err-check_message : goal.returns-in_err-check_message
+unfolding write_refusal written_of buffer_of
+returns-in_err-check_message c = grind (arith, common_steps, refused_lem)
 
-pub offset_bounds-buffer-at : goal.offset_bounds-buffer-at
-offset_bounds-buffer-at c =
-    let l = write_room c.args.header c.args.words.now c.args.buffer.now c.args.at c.type_row-row.ensures c.write_refusal-refusal.ensures c.if-refusal-eq-ACCEPTED.true in
-    omega (arith, c.select.ensures)
-
-pub slice_bounds-write_message-count : goal.slice_bounds-write_message-count
-slice_bounds-write_message-count c =
-    let l = write_room c.args.header c.args.words.now c.args.buffer.now c.args.at c.type_row-row.ensures c.write_refusal-refusal.ensures c.if-refusal-eq-ACCEPTED.true in
-    omega (arith, c.select.ensures)
-
-pub slice_bounds-write_message-start : goal.slice_bounds-write_message-start
-slice_bounds-write_message-start c =
-    let l = write_room c.args.header c.args.words.now c.args.buffer.now c.args.at c.type_row-row.ensures c.write_refusal-refusal.ensures c.if-refusal-eq-ACCEPTED.true in
-    omega (arith, c.select.ensures)
-
-pub write_message-requires : goal.write_message-requires
-write_message-requires c =
-    let l = write_room c.args.header c.args.words.now c.args.buffer.now c.args.at c.type_row-row.ensures c.write_refusal-refusal.ensures c.if-refusal-eq-ACCEPTED.true in
-    simp (length-take, length-drop) (omega arith)
-
-pub overflow_add-result : goal.overflow_add-result
-overflow_add-result c =
-    let l = write_room c.args.header c.args.words.now c.args.buffer.now c.args.at c.type_row-row.ensures c.write_refusal-refusal.ensures c.if-refusal-eq-ACCEPTED.true in
-    omega (arith, c.select.ensures)
-
-pub returns-then-refusal-eq-ACCEPTED : goal.returns-then-refusal-eq-ACCEPTED
-returns-then-refusal-eq-ACCEPTED c =
-    write_done c.args.header c.args.words.now c.args.buffer.now c.args.at c.type_row-row.ensures c.write_refusal-refusal.ensures
-    c.select.result
-    c.if-refusal-eq-ACCEPTED.true
-    c.select.ensures
+pub returns : goal.returns
+returns c =
+    let a = c.args in
+    write_done a.header a.words.now a.buffer.now a.at c.type_row-row.ensures c.in_ok-check_message.ensures
+    c.extra.result
+    refl
+    c.extra.ensures
     c.write_message.ensures
-
-pub returns-else-refusal-eq-ACCEPTED : goal.returns-else-refusal-eq-ACCEPTED
-returns-else-refusal-eq-ACCEPTED c =
-    write_refused_lem c.args.header c.args.words.now c.args.buffer.now c.args.at c.type_row-row.ensures c.write_refusal-refusal.ensures c.if-refusal-eq-ACCEPTED.false
