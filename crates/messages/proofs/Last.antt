@@ -14,7 +14,7 @@ use Rattle.protocol.specs.Parts.{Words, Queue, empty, one, two, Request, Forward
 use Rattle.protocol.specs.Home.{members}
 use Rattle.protocol.specs.Bench.{fresh_tile, tile_at, push, on_tile1, on_tile2, on_tile3, send_one, send_to, send, noc1, noc3, noc2}
 use Rattle.protocol.specs.Answers.{sent_on, sent_to}
-use Rattle.messages.specs.declared.queues.BenchQueue.{BenchQueue}
+use Rattle.layout.specs.declared.queues.BenchQueue.{BenchQueue}
 use Rattle.messages.specs.Queues.{bench_queue, queue_of_each, noc3_then_noc1, sent_queues}
 use Rattle.messages.specs.LastMessages.{last_of, last_message_on, queue_of_message, all_there, sent_messages, There}
 use Rattle.messages.proofs.Rising.{Rising, mask_of, members_mask}

@@ -8,7 +8,7 @@ use Rattle.numbers.specs.Queues.{noc1_queue, noc2_queue, noc3_queue, to_memory_q
 use Rattle.protocol.specs.Parts.{Queue, empty, one, two, Message, on_noc1, on_noc2, on_noc3, to_memory, from_memory, uncached, shared_by, owned_by, Line, absent, present, request, eviction, clear_for, clear_for_eviction, Home, idle, awaiting_load, awaiting_owner, awaiting_acks, awaiting_store, Bench, bench_of, task}
 use Rattle.protocol.specs.Bench.{tile_at, noc1, noc2, noc3}
 use Rattle.protocol.specs.Answers.{sent_on, sent_to}
-use Rattle.messages.specs.declared.queues.BenchQueue.{BenchQueue}
+use Rattle.layout.specs.declared.queues.BenchQueue.{BenchQueue}
 use Rattle.messages.specs.Queues.{bench_queue, sent_queues}
 
 -- the last message of a queue

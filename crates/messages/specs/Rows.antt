@@ -10,7 +10,7 @@ use Rattle.layout.specs.Blocks.{tile_place, pair_at, message_type}
 use Rattle.layout.specs.Encode.{no_row, enc_request, enc_forward, enc_reply, enc_to_memory, enc_from_memory}
 use Rattle.protocol.specs.Parts.{Message, on_noc1, on_noc2, on_noc3, to_memory, from_memory}
 use Rattle.calls.specs.Calls.{tile_count}
-use Rattle.messages.specs.declared.queues.BenchQueue.{BenchQueue}
+use Rattle.layout.specs.declared.queues.BenchQueue.{BenchQueue}
 use Rattle.messages.specs.Queues.{no_queue, sent_queues}
 use Rattle.messages.specs.declared.Sent.{Sent}
 

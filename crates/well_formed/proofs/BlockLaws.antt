@@ -1,6 +1,6 @@
 -- The tests of a tile's head and of the home's block are those by encoding anew. Assumes nothing.
 use Prim.Native.Nat.{ℕ, ◌+◌, ◌%◌, ◌^◌, ◌<◌}
-use mathlib.Core.Path.{◌≡◌, refl, ap, sym, ◌∙◌, subst}
+use mathlib.Core.Path.{◌≡◌, refl, ap, sym, ◌∙◌}
 use mathlib.Core.Bool.{Bool, true, false, ◌&&◌, and-true, and-false, and_assoc, and_comm}
 use mathlib.Core.List.{List}
 use native.Mathlib.Omega.{arith}
@@ -148,14 +148,10 @@ module _ (x : HomeBlock) (some : 0 < x.count) where
       (order_home (eqb (phase_number h) x.phase) (same_row (enc_line (line_of h)) x.line) (eqb (x.control.n0 % x.count) x.control.n0) (eqb (x.control.n1 % 2 ^ x.count) x.control.n1) (eqb (requester h) x.control.n2) (eqb (owed_tiles h) x.control.n3)
       (same_pair (canon_queue 4 x.out) x.out && same_pair (canon_queue 5 x.back) x.back))
 
-  pub home_others : Line ≡ true → WaitsFor ≡ true → Others ≡ home_ok x
-  home_others l p = subst (λ (z : Bool). (z && Others) ≡ home_ok x) p (subst (λ (z : Bool). (z && WaitsFor && Others) ≡ home_ok x) l home)
-
-  pub home_waits : Line ≡ true → WaitsFor ≡ false → false ≡ home_ok x
-  home_waits l p = subst (λ (z : Bool). (z && Others) ≡ home_ok x) p (subst (λ (z : Bool). (z && WaitsFor && Others) ≡ home_ok x) l home)
-
-  pub home_line : Line ≡ false → false ≡ home_ok x
-  home_line l = subst (λ (z : Bool). (z && WaitsFor && Others) ≡ home_ok x) l home
+  -- the tests one after the other, each made only where those before it hold
+  pub home_chain : {a b d e : Bool} → a ≡ (Line && WaitsFor) → b ≡ (a && eqb (x.control.n0 % x.count) x.control.n0) →
+      d ≡ (b && eqb (x.control.n1 % 2 ^ x.count) x.control.n1) → e ≡ (d && (same_pair (canon_queue 4 x.out) x.out && same_pair (canon_queue 5 x.back) x.back)) → e ≡ home_ok x
+  home_chain p q r s = s ∙ rw (r, q, p) (simp and_assoc) ∙ home
 
 -- three queues whose first types are or-ed to 0
 queue_none : (way : ℕ) (l : List ℕ) (i : ℕ) → get_or l i 0 ≡ 0 → none_at l i ≡ same_pair (canon_queue way (pair_at l i)) (pair_at l i)

@@ -78,3 +78,6 @@ flag_below x = go (eqb x 0) refl (eqb x 1) refl
         let n0 : x ≡ 0 → ⊥ = eqb-false x 0 p in
         let n1 : x ≡ 1 → ⊥ = eqb-false x 1 q in
         rw (p, ne_left x 1 n1, lt-leb x 1 (omega arith))
+
+-- numbers that have to be 0
+pub ruleset none = (or_clear, zero_left)

@@ -1,30 +1,32 @@
--- Laws of the test whether words are a bench. Assumes nothing.
-use Prim.Native.Nat.{ℕ, suc, ◌+◌, ◌-◌, ◌<◌, ◌≤◌}
-use mathlib.Core.Path.{◌≡◌, refl, ap}
-use mathlib.Core.Bool.{Bool, false, ◌&&◌}
+-- The tiles of a bench are tested one after the other. Assumes nothing.
+use Prim.Native.Nat.{ℕ, suc, ◌+◌}
+use mathlib.Core.Path.{◌≡◌, refl, sym, ap, ◌∙◌}
+use mathlib.Core.Bool.{Bool, true, false, ◌&&◌}
 use mathlib.Core.List.{List}
 use native.Mathlib.Omega.{arith}
-use Rattle.layout.specs.Blocks.{tile_block_at}
+use Rattle.std.specs.List.{list_all, range_with_len}
+use Rattle.layout.specs.Blocks.{tile_place, tile_block_at}
 use Rattle.layout.specs.Canonical.{tile_ok}
 use Rattle.calls.specs.Calls.{tiles_ok}
 
--- one turn of the loop over the tiles, and its end
-one_more : (i n : ℕ) → i < n → n - i ≡ suc (n - (i + 1))
-one_more i n h = omega arith
-
-no_more : (i n : ℕ) → n ≤ i → n - i ≡ 0
-no_more i n h = omega arith
-
-module _ (a : Bool) (l : List ℕ) (at i n : ℕ) where
-  pub tiles_turn : i < n → tiles_ok a l at (n - i) ≡ tiles_ok (a && tile_ok (tile_block_at l at)) l (at + 84) (n - (i + 1))
-  unfolding tiles_ok
-  tiles_turn h = ap (tiles_ok a l at) (one_more i n h)
-
-  pub tiles_end : n ≤ i → tiles_ok a l at (n - i) ≡ a
-  unfolding tiles_ok
-  tiles_end h = ap (tiles_ok a l at) (no_more i n h)
-
-pub tiles_false : (l : List ℕ) (n at : ℕ) → tiles_ok false l at n ≡ false
+-- past a tile that fails no test changes the outcome
+tiles_false : (l : List ℕ) (n at : ℕ) → tiles_ok false l at n ≡ false
 unfolding tiles_ok
 tiles_false l ℕ.zero at = refl
 tiles_false l (suc n) at = tiles_false l n (at + 84)
+
+-- all from tile a on
+abbrev All : List ℕ → ℕ → ℕ → Bool
+All l a n = list_all (λ t. tile_ok (tile_block_at l (tile_place t))) (range_with_len a n)
+
+pub tiles_all : (l : List ℕ) (n a : ℕ) → list_all (λ t. tile_ok (tile_block_at l (tile_place t))) (range_with_len a n) ≡ tiles_ok true l (tile_place a) n
+unfolding tiles_ok
+tiles_all l ℕ.zero a = refl
+tiles_all l (suc n) a = go (tile_ok (tile_block_at l (tile_place a))) (tiles_all l n (a + 1))
+  where
+    next : tile_place (a + 1) ≡ tile_place a + 84
+    next = omega arith
+
+    go : (b : Bool) → All l (a + 1) n ≡ tiles_ok true l (tile_place (a + 1)) n → (b && All l (a + 1) n) ≡ tiles_ok b l (tile_place a + 84) n
+    go true rest = rest ∙ ap (λ i. tiles_ok true l i n) next
+    go false rest = sym (tiles_false l n (tile_place a + 84))

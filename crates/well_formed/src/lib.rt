@@ -1,7 +1,8 @@
-// Are lent words a bench? Each block is tested where it stands to be the encoding of what it is read as, with no block read; numbers that have
-// to be 0 are or-ed together, and of each message only what its type leaves open is looked at.
+// Are lent words a bench? Each block is tested where it stands to be the encoding of what it is read as, with no block read; numbers that
+// have to be 0 are or-ed together, and of each message only what its type leaves open is looked at.
 // - fields, phases (specs/Fields): single numbers, and those that a type or a phase asks for
 // - rows (specs/Rows), messages, queues: a row, a message, a queue; tile_block, home_block (specs/Blocks): a block
+// A queue and the home are tested by words and a place, as layout has them: an array would be cut out at each call.
 // The specs here are devices of the proofs: the promise is well_formed of crate calls.
 #![tactic(auto)]
 
@@ -11,7 +12,7 @@ ghost use Rattle.layout.specs.Places.{home_size};
 ghost use Rattle.layout.specs.Blocks.{bench_words};
 ghost use Rattle.calls.specs.Calls.{tiles_ok, well_formed};
 
-use layout::places::{HOME_TILE_COUNT, HOME_WORDS, TILE_WORDS};
+use layout::places::{HOME_TILE_COUNT, HOME_WORDS, TILE_WORDS, tile_at};
 use numbers::limits::MOST_TILES;
 
 mod fields;
@@ -26,41 +27,22 @@ fn tiles_ok(words: &[u64], count: u64) -> bool
     requires { (bench_words count ≤ length words.now) × (count ≤ most_tiles) }
     ensures { result ≡ tiles_ok true words.now home_size count }
 {
-    let mut at: usize = HOME_WORDS;
-    let mut tile: u64 = 0;
-    while tile < count {
-        let one = tile_block::tile_ok_at(words, at);
-        if one {} else {
-            return false;
-        }
-        at = at + TILE_WORDS;
-        tile = tile + 1;
-    }
-    true
+    (0..count).all(|tile| tile_block::tile_ok_at(words, tile_at(tile)))
 }
 
 // Do the words begin with a bench?
+#[tactic(auto, unfolding(calls::specs::Calls::well_formed, layout::specs::Blocks::home_block_at, layout::specs::Blocks::row_at))]
 pub fn well_formed(words: &[u64]) -> bool
     ensures { result ≡ well_formed words.now }
 {
-    if HOME_WORDS <= words.len() {
-        let count = words[HOME_TILE_COUNT];
-        if 0 < count {
-            if count <= MOST_TILES {
-                let enough = HOME_WORDS + TILE_WORDS * (count as usize);
-                if enough <= words.len() {
-                    let home = home_block::home_ok_at(words);
-                    if home { tiles_ok(words, count) } else { false }
-                } else {
-                    false
-                }
-            } else {
-                false
-            }
-        } else {
-            false
-        }
-    } else {
-        false
+    if words.len() < HOME_WORDS {
+        return false;
     }
+    let count = words[HOME_TILE_COUNT];
+    if count == 0 || count > MOST_TILES {
+        return false;
+    }
+    HOME_WORDS + TILE_WORDS * (count as usize) <= words.len()
+        && home_block::home_ok_at(words)
+        && tiles_ok(words, count)
 }

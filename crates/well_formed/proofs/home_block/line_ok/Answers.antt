@@ -1,18 +1,22 @@
-use mathlib.Core.Bool.{and-true}
-use borrow.Author.Tests.{eq-eqb, ne_eqb}
-use Rattle.well_formed.proofs.NumberLaws.{zero_left}
+use native.Mathlib.Omega.{arith}
+use Rattle.std.proofs.lemmas.Grind.{common_steps}
+use Rattle.layout.specs.Canonical.{same_row}
 use Rattle.layout.specs.Blocks.{row_at}
+use Rattle.well_formed.specs.Rows.{bare, clear_behind}
 use Rattle.layout.specs.Encode.{enc_line}
 use Rattle.layout.specs.Decode.{dec_line}
-use Rattle.layout.specs.Canonical.{same_row}
-use Rattle.well_formed.specs.Rows.{bare, clear_behind}
+use Rattle.well_formed.proofs.NumberLaws.{zero_left}
 use Rattle.well_formed.proofs.RowLaws.{same_self}
 use Rattle.well_formed.proofs.home_block.line_ok.Goals as goal
 
-pub returns-then-valid-eq0 : goal.returns-then-valid-eq0
+pub returns-in-0 : goal.returns-in-0
 unfolding same_row row_at bare clear_behind enc_line dec_line
-returns-then-valid-eq0 c = simp (c.bare.ensures, eq-eqb _ _ c.if-valid-eq0.true, zero_left)
+returns-in-0 c = grind (arith, common_steps, zero_left, same_self)
 
-pub returns-else-valid-eq0 : goal.returns-else-valid-eq0
+pub returns-in-1 : goal.returns-in-1
 unfolding same_row row_at bare clear_behind enc_line dec_line
-returns-else-valid-eq0 c = simp (c.directory_ok.ensures, c.flag_ok.ensures, ne_eqb _ _ c.if-valid-eq0.false, same_self, and-true)
+returns-in-1 c = grind (arith, common_steps, zero_left, same_self)
+
+pub returns-in_default : goal.returns-in_default
+unfolding same_row row_at bare clear_behind enc_line dec_line
+returns-in_default c = grind (arith, common_steps, zero_left, same_self)
