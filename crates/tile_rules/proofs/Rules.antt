@@ -2,11 +2,14 @@
 -- Assumes nothing.
 use Prim.Native.Nat.{ℕ}
 use mathlib.Core.Path.{◌≡◌, refl, sym, ◌∙◌}
-use mathlib.Core.Bool.{Bool, cond, true, false}
+use mathlib.Core.Bool.{Bool, cond, true, false, ◌&&◌}
 use mathlib.Core.List.{List, [], ◌∷◌}
 use mathlib.Core.Option.{Option, some, none, map}
 use lib.Dec.{eqb, ltb}
 use lib.ListN.{get_or, set}
+use Rattle.std.specs.Prelude.{Result as Outcome, Ok, Err}
+use Rattle.numbers.specs.declared.refusals.Refusal.{Refusal}
+use Rattle.numbers.specs.declared.refusals.Refusal.TheVariants.{NoWord}
 use Rattle.layout.proofs.Round.{request_typed, forward_typed, reply_typed}
 use Rattle.layout.specs.declared.rows.Row.{Row}
 use Rattle.layout.specs.declared.rows.Pair.{Pair}
@@ -17,11 +20,10 @@ use Rattle.protocol.specs.Bench as bench
 use Rattle.layout.specs.Encode.{zeros, no_row, row, enc_request, enc_forward, enc_reply, enc_queue, cache_words, waiting_number, waiting_word, waiting_value, enc_head, enc_tile}
 use Rattle.protocol.specs.Answers.{sent_on}
 use Rattle.layout.specs.Queues.{has_room, push_row, push_numbers, pop_row}
-use Rattle.tile_rules.specs.declared.moves.TileStep.{TileStep}
 use Rattle.tile_rules.specs.declared.moves.TileMove.{TileMove}
-use Rattle.tile_rules.specs.declared.moves.TileMove.TheVariants.{Refuse, Read, Request as Asked, Store, WriteBack}
+use Rattle.tile_rules.specs.declared.moves.TileMove.TheVariants.{Read, Request as Asked, Store}
 use Rattle.tile_rules.specs.Moves as moves
-use Rattle.tile_rules.specs.Steps.{refused_step, accepted_step, tile_block, numbers_in, reply_put, state_after_reply, after_move, loaded_value, after_accepted, step_of, step_made, move_applied, tile_step_on}
+use Rattle.tile_rules.specs.Steps.{TileStep, refused_step, accepted_step, tile_block, numbers_in, move_applied, tile_step_on}
 
 -- what a tile sends goes onto its own queues
 unfoldable pub own_one : Message → Tile → Option Tile
@@ -88,38 +90,26 @@ unfolding or_else enc_after enc_tile
 after3 c p q1 q2 b none = refl
 after3 c p q1 q2 b (some q) = refl
 
--- a move by the room that one queue, or two, must have
-abbrev done_by : TileMove → TileBlock → TileStep
-done_by m x = accepted_step (moves.move_kind m) (loaded_value m (after_move m x)) (moves.move_queues m) (after_move m x)
-
-one_room : (r : Bool) (m : TileMove) (x : TileBlock) → step_made (cond r 0 9) m x ≡ cond r (done_by m x) (refused_step 9 x)
-unfolding step_made step_of after_accepted
-one_room true m x = refl
-one_room false m x = refl
-
-both_room : (r s : Bool) (m : TileMove) (x : TileBlock) → step_made (cond r (cond s 0 9) 9) m x ≡ cond r (cond s (done_by m x) (refused_step 9 x)) (refused_step 9 x)
-unfolding step_made step_of after_accepted
-both_room true true m x = refl
-both_room true false m x = refl
-both_room false s m x = refl
+-- room on two queues, asked of one after the other
+both_room : {A : Type 0} (r s : Bool) (a b : A) → cond (r && s) a b ≡ cond r (cond s a b) b
+both_room true s a b = refl
+both_room false s a b = refl
 
 -- a request, of either type
 asks_load : (w : ℕ) (q1 : Queue Request) (q2 : Queue Forward) (q3 : Queue Reply) →
-    move_applied (enc_tile (tile_of invalid nothing q1 q2 q3)) (Asked 31 1 w 0)
+    move_applied (enc_tile (tile_of invalid nothing q1 q2 q3)) (Ok (Asked 31 1 w 0))
     ≡ enc_after 3 0 1 (enc_tile (tile_of invalid nothing q1 q2 q3)) (bench.on_tile1 (load_req w) (tile_of invalid (for_load w) q1 q2 q3))
-unfolding move_applied after_accepted numbers_in moves.full_if has_room after_move reply_put state_after_reply loaded_value enc_tile enc_head enc_request cache_state cache_words waiting_number waiting_word waiting_value bench.on_tile1
+unfolding move_applied numbers_in has_room enc_tile enc_head enc_request cache_state cache_words waiting_number waiting_word waiting_value bench.on_tile1
 asks_load w q1 q2 q3 =
-    one_room (has_room (enc_queue enc_request q1)) (Asked 31 1 w 0) _
-    ∙ on_note enc_request request_typed q1 (load_req w) 31 w 0 0 refl (λ (q : Pair). accepted_step 3 0 1 (tile_block (enc_head invalid (for_load w)) q (enc_queue enc_forward q2) (enc_queue enc_reply q3))) _
+    on_note enc_request request_typed q1 (load_req w) 31 w 0 0 refl (λ (q : Pair). accepted_step 3 0 1 (tile_block (enc_head invalid (for_load w)) q (enc_queue enc_forward q2) (enc_queue enc_reply q3))) _
     ∙ after1 invalid (for_load w) q2 q3 1 _ _
 
 asks_store : (w v : ℕ) (c : Cache) (q1 : Queue Request) (q2 : Queue Forward) (q3 : Queue Reply) →
-    move_applied (enc_tile (tile_of c nothing q1 q2 q3)) (Asked 2 2 w v)
+    move_applied (enc_tile (tile_of c nothing q1 q2 q3)) (Ok (Asked 2 2 w v))
     ≡ enc_after 3 0 1 (enc_tile (tile_of c nothing q1 q2 q3)) (bench.on_tile1 (store_req w) (tile_of c (for_store w v) q1 q2 q3))
-unfolding move_applied after_accepted numbers_in moves.full_if has_room after_move reply_put state_after_reply loaded_value enc_tile enc_head enc_request waiting_number waiting_word waiting_value bench.on_tile1
+unfolding move_applied numbers_in has_room enc_tile enc_head enc_request waiting_number waiting_word waiting_value bench.on_tile1
 asks_store w v c q1 q2 q3 =
-    one_room (has_room (enc_queue enc_request q1)) (Asked 2 2 w v) _
-    ∙ on_note enc_request request_typed q1 (store_req w) 2 w 0 0 refl (λ (q : Pair). accepted_step 3 0 1 (tile_block (enc_head c (for_store w v)) q (enc_queue enc_forward q2) (enc_queue enc_reply q3))) _
+    on_note enc_request request_typed q1 (store_req w) 2 w 0 0 refl (λ (q : Pair). accepted_step 3 0 1 (tile_block (enc_head c (for_store w v)) q (enc_queue enc_forward q2) (enc_queue enc_reply q3))) _
     ∙ after1 c (for_store w v) q2 q3 1 _ _
 
 -- a test passed on
@@ -127,7 +117,7 @@ step_cond : (b : TileBlock) (t : Bool) (r s : Result Tile) → enc_step b (cond 
 step_cond b true r s = refl
 step_cond b false r s = refl
 
-move_cond : (x : TileBlock) (t : Bool) (m n : TileMove) → move_applied x (cond t m n) ≡ cond t (move_applied x m) (move_applied x n)
+move_cond : (x : TileBlock) (t : Bool) (m n : Outcome TileMove Refusal) → move_applied x (cond t m n) ≡ cond t (move_applied x m) (move_applied x n)
 move_cond x true m n = refl
 move_cond x false m n = refl
 
@@ -135,9 +125,9 @@ cond_both : {A : Type 0} (t : Bool) (a b c d : A) → a ≡ b → c ≡ d → co
 cond_both t a b c d e f = rw (e, f)
 
 load_word : (t w : ℕ) (x : Tile) →
-    move_applied (enc_tile x) (cond (eqb (numbers_in (enc_tile x)).waits 0) (cond (eqb (numbers_in (enc_tile x)).state 0) (Asked 31 1 w 0) (Read w)) (Refuse 4))
+    move_applied (enc_tile x) (moves.unless_waiting (numbers_in (enc_tile x)) (cond (eqb (numbers_in (enc_tile x)).state 0) (Asked 31 1 w 0) (Read w)))
     ≡ enc_step (enc_tile x) (rules.load_at t w x)
-unfolding move_applied step_made step_of after_accepted numbers_in moves.full_if after_move reply_put state_after_reply loaded_value enc_tile enc_head cache_state cache_words waiting_number waiting_word waiting_value state_number rules.load_at enc_step enc_after sent_on own_all own_to own_one
+unfolding move_applied numbers_in enc_tile enc_head cache_state cache_words waiting_number waiting_word waiting_value state_number rules.load_at enc_step enc_after sent_on own_all own_to own_one
 load_word t w (tile_of c (for_load u) q1 q2 q3) = refl
 load_word t w (tile_of c (for_store u v) q1 q2 q3) = refl
 load_word t w (tile_of (valid shared ws) nothing q1 q2 q3) = refl
@@ -145,18 +135,18 @@ load_word t w (tile_of (valid exclusive ws) nothing q1 q2 q3) = refl
 load_word t w (tile_of (valid modified ws) nothing q1 q2 q3) = refl
 load_word t w (tile_of invalid nothing q1 q2 q3) = asks_load w q1 q2 q3
 
-no_word : (x : TileBlock) → move_applied x (Refuse 3) ≡ refused_step 3 x
-unfolding move_applied step_made step_of after_accepted
+no_word : (x : TileBlock) → move_applied x (Err NoWord) ≡ refused_step 3 x
+unfolding move_applied
 no_word x = refl
 
 load_rule : (t w : ℕ) (x : Tile) → move_applied (enc_tile x) (moves.load (numbers_in (enc_tile x)) w) ≡ enc_step (enc_tile x) (bench.at_word w (rules.load_at t w x))
-unfolding moves.load bench.at_word enc_step
+unfolding bench.at_word enc_step
 load_rule t w x = move_cond (enc_tile x) (ltb w 8) _ _ ∙ cond_both (ltb w 8) _ _ _ _ (load_word t w x) (no_word (enc_tile x)) ∙ sym (step_cond (enc_tile x) (ltb w 8) _ _)
 
 store_word : (t w v : ℕ) (x : Tile) →
-    move_applied (enc_tile x) (cond (eqb (numbers_in (enc_tile x)).waits 0) (cond (ltb (numbers_in (enc_tile x)).state 2) (Asked 2 2 w v) (Store w v)) (Refuse 4))
+    move_applied (enc_tile x) (moves.unless_waiting (numbers_in (enc_tile x)) (cond (ltb (numbers_in (enc_tile x)).state 2) (Asked 2 2 w v) (Store w v)))
     ≡ enc_step (enc_tile x) (rules.store_at t w v x)
-unfolding move_applied step_made step_of after_accepted numbers_in moves.full_if after_move reply_put state_after_reply loaded_value enc_tile enc_head cache_state cache_words waiting_number waiting_word waiting_value state_number rules.store_at enc_step enc_after sent_on own_all own_to own_one
+unfolding move_applied numbers_in enc_tile enc_head cache_state cache_words waiting_number waiting_word waiting_value state_number rules.store_at enc_step enc_after sent_on own_all own_to own_one
 store_word t w v (tile_of c (for_load u) q1 q2 q3) = refl
 store_word t w v (tile_of c (for_store u y) q1 q2 q3) = refl
 store_word t w v (tile_of (valid modified ws) nothing q1 q2 q3) = refl
@@ -165,7 +155,7 @@ store_word t w v (tile_of (valid shared ws) nothing q1 q2 q3) = asks_store w v (
 store_word t w v (tile_of invalid nothing q1 q2 q3) = asks_store w v invalid q1 q2 q3
 
 store_rule : (t w v : ℕ) (x : Tile) → move_applied (enc_tile x) (moves.store (numbers_in (enc_tile x)) w v) ≡ enc_step (enc_tile x) (bench.at_word w (rules.store_at t w v x))
-unfolding moves.store bench.at_word enc_step
+unfolding bench.at_word enc_step
 store_rule t w v x = move_cond (enc_tile x) (ltb w 8) _ _ ∙ cond_both (ltb w 8) _ _ _ _ (store_word t w v x) (no_word (enc_tile x)) ∙ sym (step_cond (enc_tile x) (ltb w 8) _ _)
 
 -- WB_REQ, then WBGUARD_REQ
@@ -179,12 +169,12 @@ guards t p q1 q2 b (some q) =
     on_note enc_request request_typed q1 wb_guard_req 13 0 0 0 refl (λ (z : Pair). accepted_step 3 0 6 (tile_block (enc_head invalid p) z (enc_queue enc_forward q2) (enc_queue enc_reply q))) (refused_step 9 b) ∙ after1 invalid p q2 q 6 b (bench.push wb_guard_req q1)
 
 evict_rule : (t : ℕ) (x : Tile) → move_applied (enc_tile x) (moves.evict (numbers_in (enc_tile x))) ≡ enc_step (enc_tile x) (rules.evict_at t x)
-unfolding move_applied step_made step_of after_accepted numbers_in moves.evict moves.full_if has_room after_move reply_put state_after_reply loaded_value enc_tile enc_head cache_state cache_words state_number enc_reply rules.evict_at enc_step enc_after sent_on own_all own_to own_one bench.on_tile3
+unfolding move_applied numbers_in has_room enc_tile enc_head cache_state cache_words state_number enc_reply rules.evict_at enc_step enc_after sent_on own_all own_to own_one bench.on_tile3
 evict_rule t (tile_of invalid p q1 q2 q3) = refl
 evict_rule t (tile_of (valid shared ws) p q1 q2 q3) = refl
 evict_rule t (tile_of (valid exclusive ws) p q1 q2 q3) = refl
 evict_rule t (tile_of (valid modified ws) p q1 q2 q3) =
-    both_room (has_room (enc_queue enc_reply q3)) (has_room (enc_queue enc_request q1)) WriteBack _
+    both_room (has_room (enc_queue enc_reply q3)) (has_room (enc_queue enc_request q1)) _ _
     ∙ on_room enc_reply reply_typed q3 (wb_req ws)
     (λ (z : Pair). cond (has_room (enc_queue enc_request q1)) (accepted_step 3 0 6 (tile_block (enc_head invalid p) (push_numbers (enc_queue enc_request q1) 13 0 0 0) (enc_queue enc_forward q2) z)) (refused_step 9 (enc_tile (tile_of (valid modified ws) p q1 q2 q3))))
     _
@@ -216,29 +206,29 @@ module _ (t : ℕ) (q1 : Queue Request) (q3 : Queue Reply) (b : Row) (q : Queue 
   filled y k v c = rw (left y)
 
   load_fwd_lem : (c : Cache) (p : Waiting) → move_applied (block load_fwd c p) (moves.load_fwd (numbers_in (block load_fwd c p))) ≡ enc_step (block load_fwd c p) (rules.received t (rules.receive load_fwd c p) c p q1 q q3)
-  unfolding move_applied step_made step_of after_accepted numbers_in moves.load_fwd moves.full_if has_room after_move reply_put state_after_reply loaded_value enc_head enc_reply cache_state cache_words state_number rules.receive rules.received enc_step sent_on own_all own_to own_one
-  load_fwd_lem invalid p = one_room (has_room (enc_queue enc_reply q3)) (moves.load_fwd (numbers_in (block load_fwd invalid p))) _ ∙ noted _ _ load_fwd_ack_i invalid p 21 0 refl
+  unfolding move_applied numbers_in has_room enc_head enc_reply cache_state cache_words state_number rules.receive rules.received enc_step sent_on own_all own_to own_one
+  load_fwd_lem invalid p = noted _ _ load_fwd_ack_i invalid p 21 0 refl
   load_fwd_lem (valid shared ws) p = refl
-  load_fwd_lem (valid exclusive ws) p = one_room (has_room (enc_queue enc_reply q3)) (moves.load_fwd (numbers_in (block load_fwd (valid exclusive ws) p))) _ ∙ noted _ _ (load_fwd_ack_s none) (valid shared ws) p 21 1 refl
-  load_fwd_lem (valid modified ws) p = one_room (has_room (enc_queue enc_reply q3)) (moves.load_fwd (numbers_in (block load_fwd (valid modified ws) p))) _ ∙ pushed _ _ (load_fwd_ack_s (some ws)) (valid shared ws) p
+  load_fwd_lem (valid exclusive ws) p = noted _ _ (load_fwd_ack_s none) (valid shared ws) p 21 1 refl
+  load_fwd_lem (valid modified ws) p = pushed _ _ (load_fwd_ack_s (some ws)) (valid shared ws) p
 
   store_fwd_lem : (c : Cache) (p : Waiting) → move_applied (block store_fwd c p) (moves.store_fwd (numbers_in (block store_fwd c p))) ≡ enc_step (block store_fwd c p) (rules.received t (rules.receive store_fwd c p) c p q1 q q3)
-  unfolding move_applied step_made step_of after_accepted numbers_in moves.store_fwd moves.full_if has_room after_move reply_put state_after_reply loaded_value enc_head enc_reply cache_state cache_words state_number rules.receive rules.received enc_step sent_on own_all own_to own_one
-  store_fwd_lem invalid p = one_room (has_room (enc_queue enc_reply q3)) (moves.store_fwd (numbers_in (block store_fwd invalid p))) _ ∙ noted _ _ (store_fwd_ack none) invalid p 22 0 refl
+  unfolding move_applied numbers_in has_room enc_head enc_reply cache_state cache_words state_number rules.receive rules.received enc_step sent_on own_all own_to own_one
+  store_fwd_lem invalid p = noted _ _ (store_fwd_ack none) invalid p 22 0 refl
   store_fwd_lem (valid shared ws) p = refl
-  store_fwd_lem (valid exclusive ws) p = one_room (has_room (enc_queue enc_reply q3)) (moves.store_fwd (numbers_in (block store_fwd (valid exclusive ws) p))) _ ∙ noted _ _ (store_fwd_ack none) invalid p 22 0 refl
-  store_fwd_lem (valid modified ws) p = one_room (has_room (enc_queue enc_reply q3)) (moves.store_fwd (numbers_in (block store_fwd (valid modified ws) p))) _ ∙ pushed _ _ (store_fwd_ack (some ws)) invalid p
+  store_fwd_lem (valid exclusive ws) p = noted _ _ (store_fwd_ack none) invalid p 22 0 refl
+  store_fwd_lem (valid modified ws) p = pushed _ _ (store_fwd_ack (some ws)) invalid p
 
   inv_fwd_lem : (c : Cache) (p : Waiting) → move_applied (block inv_fwd c p) (moves.inv_fwd (numbers_in (block inv_fwd c p))) ≡ enc_step (block inv_fwd c p) (rules.received t (rules.receive inv_fwd c p) c p q1 q q3)
-  unfolding move_applied step_made step_of after_accepted numbers_in moves.inv_fwd moves.full_if has_room after_move reply_put state_after_reply loaded_value enc_head enc_reply cache_state cache_words state_number rules.receive rules.received enc_step sent_on own_all own_to own_one
-  inv_fwd_lem invalid p = one_room (has_room (enc_queue enc_reply q3)) (moves.inv_fwd (numbers_in (block inv_fwd invalid p))) _ ∙ noted _ _ inv_fwd_ack invalid p 23 0 refl
-  inv_fwd_lem (valid shared ws) p = one_room (has_room (enc_queue enc_reply q3)) (moves.inv_fwd (numbers_in (block inv_fwd (valid shared ws) p))) _ ∙ noted _ _ inv_fwd_ack invalid p 23 0 refl
+  unfolding move_applied numbers_in has_room enc_head enc_reply cache_state cache_words state_number rules.receive rules.received enc_step sent_on own_all own_to own_one
+  inv_fwd_lem invalid p = noted _ _ inv_fwd_ack invalid p 23 0 refl
+  inv_fwd_lem (valid shared ws) p = noted _ _ inv_fwd_ack invalid p 23 0 refl
   inv_fwd_lem (valid exclusive ws) p = refl
   inv_fwd_lem (valid modified ws) p = refl
 
   data_ack_lem : (r : State) (miss : Bool) (ws : Words) (c : Cache) (p : Waiting) →
       move_applied (block (data_ack r miss ws) c p) (moves.fill (numbers_in (block (data_ack r miss ws) c p))) ≡ enc_step (block (data_ack r miss ws) c p) (rules.received t (rules.receive (data_ack r miss ws) c p) c p q1 q q3)
-  unfolding move_applied step_made step_of after_accepted numbers_in moves.fill moves.store_fill moves.load_fill moves.full_if after_move reply_put state_after_reply loaded_value enc_forward enc_head cache_state cache_words waiting_number waiting_word waiting_value state_number rules.receive rules.fill rules.received enc_step enc_after sent_on own_all
+  unfolding move_applied numbers_in enc_forward enc_head cache_state cache_words waiting_number waiting_word waiting_value state_number rules.receive rules.fill rules.received enc_step enc_after sent_on own_all
   data_ack_lem modified miss ws c nothing = refl
   data_ack_lem modified miss ws invalid (for_load w) = refl
   data_ack_lem modified miss ws (valid x us) (for_load w) = refl
@@ -260,7 +250,7 @@ module _ (t : ℕ) (q1 : Queue Request) (q3 : Queue Reply) (b : Row) (q : Queue 
   data_ack_lem exclusive miss ws c (for_store w v) = refl
 
   front_rule : (m : Forward) (c : Cache) (p : Waiting) → move_applied (block m c p) (moves.deliver (numbers_in (block m c p))) ≡ enc_step (block m c p) (rules.received t (rules.receive m c p) c p q1 q q3)
-  unfolding moves.deliver moves.forward numbers_in enc_forward
+  unfolding numbers_in enc_forward
   front_rule load_fwd c p = load_fwd_lem c p
   front_rule store_fwd c p = store_fwd_lem c p
   front_rule inv_fwd c p = inv_fwd_lem c p
@@ -275,7 +265,7 @@ unfolding pop_row enc_queue
 second_left n x = rw (forward_typed n)
 
 none_rule : (h : Row) (x z : Pair) → move_applied (tile_block h x (record { a = no_row; b = no_row }) z) (moves.deliver (numbers_in (tile_block h x (record { a = no_row; b = no_row }) z))) ≡ refused_step 7 (tile_block h x (record { a = no_row; b = no_row }) z)
-unfolding move_applied step_made step_of after_accepted numbers_in moves.deliver
+unfolding move_applied numbers_in
 none_rule h x z = refl
 
 deliver_rule : (t : ℕ) (x : Tile) → move_applied (enc_tile x) (moves.deliver (numbers_in (enc_tile x))) ≡ enc_step (enc_tile x) (rules.deliver_to t x)
@@ -289,7 +279,7 @@ unfoldable pub rule_of : ℕ → ℕ → ℕ → ℕ → Tile → Result Tile
 rule_of c t w v x = cond (eqb c 16) (bench.at_word w (rules.load_at t w x)) (cond (eqb c 17) (bench.at_word w (rules.store_at t w v x)) (cond (eqb c 18) (rules.evict_at t x) (rules.deliver_to t x)))
 
 pub rule_numbers : (c t w v : ℕ) (x : Tile) → tile_step_on c w v (enc_tile x) ≡ enc_step (enc_tile x) (rule_of c t w v x)
-unfolding tile_step_on moves.step rule_of
+unfolding tile_step_on rule_of
 rule_numbers c t w v x = go (eqb c 16) (eqb c 17) (eqb c 18)
   where
     go : (a b d : Bool) → move_applied (enc_tile x) (cond a (moves.load (numbers_in (enc_tile x)) w) (cond b (moves.store (numbers_in (enc_tile x)) w v) (cond d (moves.evict (numbers_in (enc_tile x))) (moves.deliver (numbers_in (enc_tile x))))))

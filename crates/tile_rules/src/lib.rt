@@ -7,18 +7,18 @@
 ghost use Rattle.std.specs.Prelude.{◌≡◌};
 ghost use Rattle.tile_rules.specs.Moves.{step};
 
+use numbers::refusals::Refusal;
 use numbers::tags::{TAG_EVICT, TAG_LOAD, TAG_STORE};
 
 mod accesses;
 mod deliveries;
 mod moves;
 
-pub use moves::{
-    StepAnswer, TileMove, TileNumbers, TileStep, move_kind, move_queues, move_refusal,
-};
+pub use moves::{TileMove, TileNumbers};
 
-// One of the four by tag: load, store, evict, else delivery to the tile.
-pub fn step(tile: TileNumbers, tag: u64, word: u64, value: u64) -> TileMove
+// One of the four by tag: load, store, evict, else delivery to the tile. The tag is no enum:
+// `bench::at_tile` takes any number, and every other is a delivery.
+pub fn step(tile: TileNumbers, tag: u64, word: u64, value: u64) -> Result<TileMove, Refusal>
     ensures { result ≡ step tile tag word value }
 {
     match tag {

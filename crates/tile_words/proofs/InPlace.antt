@@ -1,51 +1,29 @@
 -- Laws of a tile's block changed in place: writing a part of it is writing the whole block with that part changed. Assumes nothing.
 use Prim.Native.Nat.{ℕ, ◌+◌, ◌≤◌, ◌<◌}
-use mathlib.Core.Path.{◌≡◌, refl, ap, sym, ◌∙◌, subst}
+use mathlib.Core.Path.{◌≡◌, refl, ap, sym, ◌∙◌}
 use mathlib.Core.List.{List, [], ◌∷◌, ◌++◌, append_assoc}
 use native.Mathlib.Omega.{arith}
 use native.Mathlib.Nat.{add-zero}
 use lib.ListN.{length, get_or, set, take, drop, length-set, get_or-eq_default}
 use lib.Seq.{length-take-le, get_or-take, get_or-drop, set_out}
-use borrow.Author.Tests.{eq-eqb, ne_eqb}
 use Rattle.lists.specs.Over.{over}
-use Rattle.layout.specs.declared.rows.Row.{Row}
 use Rattle.layout.specs.declared.rows.Pair.{Pair}
 use Rattle.layout.specs.declared.rows.TileBlock.{TileBlock}
-use Rattle.layout.specs.Blocks.{row_at, pair_at, tile_block_at, row_words, pair_words, tile_block_words, PairFull}
-use Rattle.layout.proofs.Over.{join, row_words_lem, pair_words_lem, tile_words, length_pair, length_tile}
-use Rattle.layout.proofs.Reading.{row_full, pair_full, tile_full, tile_at_lem, over_behind, over_front}
-use Rattle.layout.specs.Encode.{row}
-use Rattle.layout.specs.Queues.{push_row, push_numbers, pop_row}
+use Rattle.layout.specs.Blocks.{head_state, row_at, pair_at, tile_block_at, row_words, pair_words, tile_block_words, PairFull}
+use Rattle.layout.proofs.Over.{join, row_words_lem, pair_words_lem, tile_words, length_pair}
+use Rattle.layout.proofs.Reading.{row_full, pair_full, tile_full, tile_at_lem}
 use Rattle.layout.proofs.Parts.{over_read, kept_behind, kept_before, row_numbers, set_part}
-use Rattle.tile_rules.specs.declared.moves.TileMove.{TileMove}
-use Rattle.tile_rules.specs.Steps.{with_numbers, with_state, with_line, with_word, with_noc1, without_forward, with_noc3, reply_put, state_after_reply, line_dropped, after_move, after_accepted}
+use Rattle.tile_rules.specs.Steps.{with_numbers, with_state, with_line, with_word, with_noc1, with_noc3}
 use Rattle.tile_words.specs.InPlace.{TilePut}
 
--- a block written over another at the same place
-pub put_put : (l m n : List ℕ) (i : ℕ) (x y : TileBlock) → i + 84 ≤ length l → TilePut l i x m → TilePut m i y n → TilePut l i y n
-unfolding over
-put_put l m n i x y h p q =
-    let a : length (tile_block_words x) ≡ 84 = length_tile x p.full in
-    let b : length (tile_block_words y) ≡ 84 = length_tile y q.full in
-    let A : List ℕ = take i l in
-    let Z : List ℕ = drop (i + length (tile_block_words x)) l in
-    let k : length A ≡ i = length-take-le i l (omega arith) in
-    let z : i ≡ length A + 0 = omega arith in
-    let e : over (A ++ (tile_block_words x ++ Z)) i (tile_block_words y) ≡ A ++ (tile_block_words y ++ Z) =
-    ap (λ (j : ℕ). over (A ++ (tile_block_words x ++ Z)) j (tile_block_words y)) z ∙ over_behind A (tile_block_words x ++ Z) 0 (tile_block_words y)
-    ∙ ap (λ (r : List ℕ). A ++ r) (over_front (tile_block_words x) (tile_block_words y) Z (omega arith)) in
-    record {
-      words = q.words ∙ ap (λ (r : List ℕ). over r i (tile_block_words y)) p.words ∙ e ∙ ap (λ (j : ℕ). A ++ (tile_block_words y ++ drop (i + j) l)) (a ∙ sym b);
-      full = q.full;
-    }
-
+-- what stands there then
 pub put_read : (l m : List ℕ) (i : ℕ) (x : TileBlock) → i + 84 ≤ length l → TilePut l i x m → tile_block_at m i ≡ x
 unfolding over
 put_read l m i x h p = ap (λ (r : List ℕ). tile_block_at r i) p.words ∙ tile_at_lem (take i l) _ x i (length-take-le i l (omega arith)) p.full
 
--- one change after another
-pub put_then : (f : TileBlock → TileBlock) (l m n : List ℕ) (i : ℕ) (x : TileBlock) → i + 84 ≤ length l → TilePut l i x m → TilePut m i (f (tile_block_at m i)) n → TilePut l i (f x) n
-put_then f l m n i x h p q = put_put l m n i x (f x) h p (subst (λ (y : TileBlock). TilePut m i (f y) n) (put_read l m i x h p) q)
+pub state_in : (l : List ℕ) → get_or l 0 0 ≡ head_state (tile_block_at l 0).head
+unfolding tile_block_at row_at
+state_in l = refl
 
 module _ (l m : List ℕ) (i : ℕ) (h : i + 84 ≤ length l) where
   abbrev x : TileBlock
@@ -136,60 +114,11 @@ module _ (l m : List ℕ) (i : ℕ) (h : i + 84 ≤ length l) where
       }
 
   -- no word of the line from word 8 on
-  pub word_beyond : (w v : ℕ) → 8 ≤ w → TilePut l i (with_word w v x) l
+  pub word_beyond : (w v : ℕ) → 8 ≤ w → x ≡ with_word w v x
   unfolding tile_block_at row_at
   word_beyond w v b =
       let n : length (take 8 (drop (i + 4) l)) ≡ 8 = row_full l i (omega arith) in
-      subst (λ (ws : List ℕ). TilePut l i (with_line ws (tile_block_at l i)) l) (sym (set_out (take 8 (drop (i + 4) l)) w v (omega arith))) put_same
-
-  -- a message with the line's words
-  pub reply_whole : (k r f : ℕ) (q : Row) (ws : List ℕ) → ws ≡ take 8 (drop (i + 4) l) → q ≡ row k 0 r f ws → PairFull (push_row (pair_at l (i + 60)) q) → m ≡ over l (i + 60) (pair_words (push_row (pair_at l (i + 60)) q)) →
-      TilePut l i (with_noc3 (push_row x.noc3 (row k 0 r f x.head.words)) x) m
-  unfolding tile_block_at row_at
-  reply_whole k r f q ws e1 e2 full e =
-      subst (λ (z : Row). TilePut l i (with_noc3 (push_row (pair_at l (i + 60)) z) (tile_block_at l i)) m) (e2 ∙ ap (row k 0 r f) e1) (put_noc3 (push_row (pair_at l (i + 60)) q) full e)
-
-  -- an ack with data, and without
-  pub reply_data : (k r f : ℕ) (q : Row) (ws : List ℕ) → (f ≡ 0 → ⊥) → ws ≡ take 8 (drop (i + 4) l) → q ≡ row k 0 r f ws → PairFull (push_row (pair_at l (i + 60)) q) → m ≡ over l (i + 60) (pair_words (push_row (pair_at l (i + 60)) q)) → TilePut l i (reply_put k r f x) m
-  unfolding reply_put
-  reply_data k r f q ws a e1 e2 full e = rw (ne_eqb f 0 a) (reply_whole k r f q ws e1 e2 full e)
-
-  pub reply_bare : (k r f : ℕ) → f ≡ 0 → PairFull (push_numbers (pair_at l (i + 60)) k 0 r 0) → m ≡ over l (i + 60) (pair_words (push_numbers (pair_at l (i + 60)) k 0 r 0)) → TilePut l i (reply_put k r f x) m
-  unfolding reply_put tile_block_at
-  reply_bare k r f a full e = rw (eq-eqb f 0 a) (put_noc3 (push_numbers (pair_at l (i + 60)) k 0 r 0) full e)
-
-  -- a request
-  pub request_note : (k w : ℕ) → PairFull (push_numbers (pair_at l (i + 12)) k w 0 0) → m ≡ over l (i + 12) (pair_words (push_numbers (pair_at l (i + 12)) k w 0 0)) → TilePut l i (with_noc1 (push_numbers x.noc1 k w 0 0) x) m
-  unfolding tile_block_at
-  request_note k w full e = put_noc1 (push_numbers (pair_at l (i + 12)) k w 0 0) full e
-
-  -- the front of NoC2 taken off
-  pub receive_one : PairFull (pop_row (pair_at l (i + 36))) → m ≡ over l (i + 36) (pair_words (pop_row (pair_at l (i + 36)))) → TilePut l i (without_forward x) m
-  unfolding tile_block_at
-  receive_one full e = put_noc2 (pop_row (pair_at l (i + 36))) full e
-
-  -- the state and the line after an answer
-  pub line_none : (s : ℕ) → s ≡ 0 → TilePut l i (line_dropped x) m → TilePut l i (state_after_reply s x) m
-  unfolding state_after_reply
-  line_none s a p = rw (eq-eqb s 0 a) p
-
-  pub line_some : (s : ℕ) → (s ≡ 0 → ⊥) → TilePut l i (with_state s x) m → TilePut l i (state_after_reply s x) m
-  unfolding state_after_reply
-  line_some s a p = rw (ne_eqb s 0 a) p
-
-  -- what stands on NoC2's front
-  pub line_front : (ws : List ℕ) → ws ≡ take 8 (drop (i + 36 + 4) l) → ws ≡ x.noc2.a.words
-  unfolding tile_block_at pair_at row_at
-  line_front ws e = e
-
-  -- a move made where its refusal number is 0
-  pub made_not : (r : ℕ) (z : TileMove) → (r ≡ 0 → ⊥) → TilePut l i (after_accepted r z x) l
-  unfolding after_accepted
-  made_not r z a = rw (ne_eqb r 0 a) put_same
-
-  pub made_one : (r : ℕ) (z : TileMove) → r ≡ 0 → TilePut l i (after_move z x) m → TilePut l i (after_accepted r z x) m
-  unfolding after_accepted
-  made_one r z a p = rw (eq-eqb r 0 a) p
+      ap (λ (ws : List ℕ). with_line ws (tile_block_at l i)) (sym (set_out (take 8 (drop (i + 4) l)) w v (omega arith)))
 
   -- a word of the line, and none beyond it
   pub word_some : (w : ℕ) → w < 8 → get_or l (i + 4 + w) 0 ≡ get_or x.head.words w 0

@@ -1,4 +1,3 @@
 pub mod InPlace
-pub mod Then
-pub mod Front
-pub mod Stepped
+pub mod Part
+pub mod Full

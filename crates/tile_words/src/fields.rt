@@ -1,73 +1,70 @@
-// The numbers of a tile's block where they stand in a bench's words: read, and written; and its line's words written.
-ghost use Rattle.std.specs.Prelude.{◌≡◌, ◌+◌, ◌≤◌, length, get_or};
-ghost use Rattle.layout.specs.Places.{tile_size};
-ghost use Rattle.layout.specs.Blocks.{tile_block_at};
+// The numbers of a tile's block in its words: read, and written; and its line's words written.
+ghost use Rattle.std.specs.Prelude.{◌≡◌, get_or};
 ghost use Rattle.tile_rules.specs.Steps.{numbers_in, with_numbers, with_state, with_line, with_word};
-ghost use Rattle.tile_words.specs.InPlace.{PutsTile};
+ghost use Rattle.tile_words.specs.InPlace.{tile_in};
 
+use crate::Tile;
 use layout::places::{
-    MESSAGE_STATE, SECOND, TILE_LINE, TILE_NOC1, TILE_NOC2, TILE_NOC3, TILE_VALUE, TILE_WAITING,
-    TILE_WORD,
+    MESSAGE_STATE, SECOND, TILE_LINE, TILE_NOC1, TILE_NOC2, TILE_NOC3, TILE_STATE, TILE_VALUE,
+    TILE_WAITING, TILE_WORD,
 };
 use numbers::limits::{LINE_LENGTH, LINE_WORDS};
 use tile_rules::TileNumbers;
 
-pub fn read_numbers(words: &[u64], at: usize) -> TileNumbers
-    requires { at + tile_size ≤ length words.now }
-    ensures { result ≡ numbers_in (tile_block_at words.now at) }
+pub fn read_numbers(tile: &Tile) -> TileNumbers
+    ensures { result ≡ numbers_in (tile_in tile.now) }
 {
     TileNumbers {
-        state: words[at],
-        waits: words[at + TILE_WAITING],
-        word: words[at + TILE_WORD],
-        value: words[at + TILE_VALUE],
-        noc1: words[at + TILE_NOC1 + SECOND],
-        message: words[at + TILE_NOC2],
-        granted: words[at + TILE_NOC2 + MESSAGE_STATE],
-        noc3: words[at + TILE_NOC3 + SECOND],
+        state: tile[TILE_STATE],
+        waits: tile[TILE_WAITING],
+        word: tile[TILE_WORD],
+        value: tile[TILE_VALUE],
+        noc1: tile[TILE_NOC1 + SECOND],
+        message: tile[TILE_NOC2],
+        granted: tile[TILE_NOC2 + MESSAGE_STATE],
+        noc3: tile[TILE_NOC3 + SECOND],
     }
 }
 
-pub fn write_state(words: &mut [u64], at: usize, state: u64)
-    requires { at + tile_size ≤ length words.old }
-    ensures { PutsTile words.old at (with_state state) words.new }
+pub fn write_state(tile: &mut Tile, state: u64)
+    ensures { tile_in tile.new ≡ with_state state (tile_in tile.old) }
 {
-    words[at] = state;
+    tile[TILE_STATE] = state;
 }
 
-pub fn write_numbers(words: &mut [u64], at: usize, state: u64, waits: u64, word: u64, value: u64)
-    requires { at + tile_size ≤ length words.old }
-    ensures { PutsTile words.old at (with_numbers state waits word value) words.new }
+pub fn write_numbers(tile: &mut Tile, state: u64, waits: u64, word: u64, value: u64)
+    ensures { tile_in tile.new ≡ with_numbers state waits word value (tile_in tile.old) }
 {
-    layout::write_four(words, at, state, waits, word, value);
+    layout::write_four(tile, TILE_STATE, state, waits, word, value);
 }
 
-pub fn write_line(words: &mut [u64], at: usize, line: [u64; LINE_LENGTH])
-    requires { at + tile_size ≤ length words.old }
-    ensures { PutsTile words.old at (with_line line) words.new }
+pub fn read_line(tile: &Tile) -> [u64; LINE_LENGTH]
+    ensures { result ≡ (tile_in tile.now).head.words }
 {
-    layout::write_eight(words, at + TILE_LINE, line);
+    layout::read_eight(tile, TILE_LINE)
+}
+
+pub fn write_line(tile: &mut Tile, line: [u64; LINE_LENGTH])
+    ensures { tile_in tile.new ≡ with_line line (tile_in tile.old) }
+{
+    layout::write_eight(tile, TILE_LINE, line);
 }
 
 // One word of the line; there is none from word 8 on.
-pub fn read_word(words: &[u64], at: usize, word: u64) -> u64
-    requires { at + tile_size ≤ length words.now }
-    ensures { result ≡ get_or (tile_block_at words.now at).head.words word 0 }
+pub fn read_word(tile: &Tile, word: u64) -> u64
+    ensures { result ≡ get_or (tile_in tile.now).head.words word 0 }
 {
     if word < LINE_WORDS {
-        let i = word as usize;
-        words[at + TILE_LINE + i]
+        tile[TILE_LINE + word as usize]
     } else {
         0
     }
 }
 
-pub fn write_word(words: &mut [u64], at: usize, word: u64, value: u64)
-    requires { at + tile_size ≤ length words.old }
-    ensures { PutsTile words.old at (with_word word value) words.new }
+pub fn write_word(tile: &mut Tile, word: u64, value: u64)
+    ensures { tile_in tile.new ≡ with_word word value (tile_in tile.old) }
 {
     if word < LINE_WORDS {
-        let i = word as usize;
-        words[at + TILE_LINE + i] = value;
-    } else {}
+        tile[TILE_LINE + word as usize] = value;
+    }
 }

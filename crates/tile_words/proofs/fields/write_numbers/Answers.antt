@@ -1,5 +1,6 @@
-use Rattle.tile_words.proofs.InPlace.{put_numbers}
+use native.Mathlib.Omega.{arith}
+use Rattle.tile_words.proofs.InPlace.{put_read, put_numbers}
 use Rattle.tile_words.proofs.fields.write_numbers.Goals as goal
 
 pub returns : goal.returns
-returns c = put_numbers _ _ c.args.at c.requires _ _ _ _ c.write_four.ensures
+returns c = put_read _ _ 0 _ (omega arith) (put_numbers _ _ 0 (omega arith) _ _ _ _ c.write_four.ensures)
