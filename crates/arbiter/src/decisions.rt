@@ -1,77 +1,82 @@
 // What the home does at each of its calls but the memory step.
-ghost use Rattle.std.specs.Prelude.{◌≡◌, ◌+◌, ◌≤◌, ◌<◌, length, get_or};
+ghost use Rattle.std.specs.Prelude.{◌≡◌, ◌+◌, ◌≤◌, ◌<◌, length, get_or, IfOk};
 ghost use Rattle.numbers.specs.Limits.{most_tiles};
-ghost use Rattle.layout.specs.Places.{row_size, home_last_taken_place, home_size, queue_size};
-ghost use Rattle.layout.specs.Blocks.{bench_words};
+ghost use Rattle.layout.specs.Places.{row_size, home_last_taken_place, home_size};
 ghost use Rattle.arbiter.specs.Decisions.{reply_move, from_tile_decision, memory_ack_decision, eviction_decision, decision_of};
+ghost use Rattle.home_words.specs.Commits.{HaveQueue};
+ghost use Rattle.home_words.specs.Forwards.{HoldTiles};
 
-use crate::takings::Decision;
 use home_rules::HomeMove;
-use home_words::NO_PLACE;
-use layout::places::{
-    HOME_FROM_MEMORY, HOME_WORDS, MESSAGE_FLAG, MESSAGE_STATE, TILE_NOC3, TILE_WORDS,
-};
-use numbers::refusals::NO_TILE;
+use home_words::Decision;
+use layout::places::{self, HOME_FROM_MEMORY, MESSAGE_FLAG, MESSAGE_STATE, TILE_NOC3};
+use numbers::refusals::Refusal;
 use numbers::tags::{TAG_FROM_TILE, TAG_MEMORY_ACK, TAG_TAKING};
 
 // By the message at this place, from the tile.
-fn reply_move(words: &[u64], tile: u64, place: usize) -> HomeMove
+#[tactic(auto, unfolding(crate::specs::Decisions::reply_move))]
+fn reply_move(words: &[u64], tile: u64, place: usize) -> Result<HomeMove, Refusal>
     requires { (home_size ≤ length words.now) × (place + row_size ≤ length words.now) }
     ensures { result ≡ reply_move words.now tile place }
 {
     let home = home_words::read_numbers(words);
-    home_rules::accept_reply(
-        home,
-        tile,
-        words[place],
-        words[place + MESSAGE_STATE],
-        words[place + MESSAGE_FLAG],
-    )
+    let state = words[place + MESSAGE_STATE];
+    home_rules::accept_reply(home, tile, words[place], state, words[place + MESSAGE_FLAG])
 }
 
-fn from_tile_decision(words: &[u64], count: u64, tile: u64) -> Decision
-    requires { (bench_words count ≤ length words.now) × (count ≤ most_tiles) × (home_size ≤ length words.now) }
+#[tactic(auto, unfolding(crate::specs::Decisions::from_tile_decision))]
+fn from_tile_decision(words: &[u64], count: u64, tile: u64) -> Result<Decision, Refusal>
+    requires { HoldTiles words.now count }
     ensures turn { result ≡ from_tile_decision words.now count tile }
-    ensures inside { result.place + queue_size ≤ length words.now }
+    ensures inside { IfOk result (λ d. HaveQueue words.now d.place) }
 {
-    if tile < count {
-        let place = HOME_WORDS + TILE_WORDS * (tile as usize) + TILE_NOC3;
-        crate::takings::serving(0, place, reply_move(words, tile, place))
-    } else {
-        crate::takings::refusing(home_words::read_numbers(words), NO_TILE)
+    if tile >= count {
+        return Err(Refusal::NoTile);
     }
+    let place = places::tile_at(tile) + TILE_NOC3;
+    let made = reply_move(words, tile, place)?;
+    Ok(Decision {
+        value: 0,
+        place: Some(place),
+        made,
+    })
 }
 
-fn memory_ack_decision(words: &[u64]) -> Decision
+#[tactic(auto, unfolding(crate::specs::Decisions::memory_ack_decision))]
+fn memory_ack_decision(words: &[u64]) -> Result<Decision, Refusal>
     requires { home_size ≤ length words.now }
     ensures turn { result ≡ memory_ack_decision words.now }
-    ensures inside { result.place + queue_size ≤ length words.now }
+    ensures inside { IfOk result (λ d. HaveQueue words.now d.place) }
 {
     let home = home_words::read_numbers(words);
-    crate::takings::serving(
-        0,
-        HOME_FROM_MEMORY,
-        home_rules::memory_ack(home, words[HOME_FROM_MEMORY]),
-    )
+    let made = home_rules::memory_ack(home, words[HOME_FROM_MEMORY])?;
+    Ok(Decision {
+        value: 0,
+        place: Some(HOME_FROM_MEMORY),
+        made,
+    })
 }
 
-fn eviction_decision(words: &[u64]) -> Decision
+#[tactic(auto, unfolding(crate::specs::Decisions::eviction_decision))]
+fn eviction_decision(words: &[u64]) -> Result<Decision, Refusal>
     requires { home_size ≤ length words.now }
     ensures turn { result ≡ eviction_decision words.now }
-    ensures inside { result.place + queue_size ≤ length words.now }
+    ensures inside { IfOk result (λ d. HaveQueue words.now d.place) }
 {
-    crate::takings::serving(
-        0,
-        NO_PLACE,
-        home_rules::evict_line(home_words::read_numbers(words)),
-    )
+    let made = home_rules::evict_line(home_words::read_numbers(words))?;
+    Ok(Decision {
+        value: 0,
+        place: None,
+        made,
+    })
 }
 
-// By the call's tag: taking, delivery from the tile, memory ack, else home eviction.
-pub fn decision_of(words: &[u64], count: u64, tag: u64, tile: u64) -> Decision
-    requires { (bench_words count ≤ length words.now) × (count ≤ most_tiles) × (home_size ≤ length words.now) × (get_or words.now home_last_taken_place 0 < most_tiles) }
+// By the call's tag, a number, as `bench::at_home` takes any and has an answer for each: taking, delivery from the tile, memory ack, else
+// home eviction.
+#[tactic(auto, unfolding(crate::specs::Decisions::decision_of))]
+pub fn decision_of(words: &[u64], count: u64, tag: u64, tile: u64) -> Result<Decision, Refusal>
+    requires { HoldTiles words.now count × (get_or words.now home_last_taken_place 0 < most_tiles) }
     ensures turn { result ≡ decision_of words.now count tag tile }
-    ensures inside { result.place + queue_size ≤ length words.now }
+    ensures inside { IfOk result (λ d. HaveQueue words.now d.place) }
 {
     match tag {
         TAG_TAKING => crate::takings::taking_decision(words, count),

@@ -1,5 +1,5 @@
-// The home's arbiter: what the home does at each of its calls, decided on the words of a bench before one is written (crate home_words makes
-// the move).
+// The home's arbiter: what the home does at each of its calls, decided on the words of a bench before one is written (crate home_words
+// makes the move).
 // - round_robin (specs/RoundRobin): the tiles that may be taken, and the next of them in 01's circle
 // - takings (specs/Takings): 01's taking; decisions (specs/Decisions): the home's other calls
 #![tactic(auto)]
@@ -9,4 +9,3 @@ mod round_robin;
 mod takings;
 
 pub use decisions::decision_of;
-pub use takings::Decision;

@@ -1,68 +1,45 @@
 // 01's taking: which tile an idle home takes, and what it does then.
-ghost use Rattle.std.specs.Prelude.{◌≡◌, ◌+◌, ◌≤◌, ◌<◌, length, get_or};
+ghost use Rattle.std.specs.Prelude.{◌≡◌, ◌+◌, ◌<◌, get_or, IfOk};
 ghost use Rattle.numbers.specs.Limits.{most_tiles};
-ghost use Rattle.layout.specs.Places.{home_last_taken_place, home_size, queue_size};
-ghost use Rattle.layout.specs.Blocks.{bench_words};
-ghost use Rattle.arbiter.specs.Takings.{decision, refusing, taking_of, taking_decision};
+ghost use Rattle.layout.specs.Places.{home_last_taken_place};
+ghost use Rattle.arbiter.specs.Takings.{taking_of, taking_decision};
+ghost use Rattle.home_words.specs.Commits.{HaveQueue};
+ghost use Rattle.home_words.specs.Forwards.{HoldTiles};
 
-use home_rules::{HomeMove, HomeNumbers};
-use home_words::NO_PLACE;
+use home_words::Decision;
 use layout::codes::PHASE_IDLE;
-use layout::places::{HOME_LAST_TAKEN, HOME_MARKS, HOME_PHASE, HOME_WORDS, TILE_NOC1, TILE_WORDS};
-use numbers::refusals::{NOT_IDLE, NOTHING_THERE};
-
-// The value answered, the place of the queue whose front message is answered (NO_PLACE: it answers none), and the move.
-#[derive(Clone, Copy)]
-pub struct Decision {
-    pub value: u64,
-    pub place: usize,
-    pub made: HomeMove,
-}
-
-pub fn serving(value: u64, place: usize, made: HomeMove) -> Decision
-    ensures { result ≡ decision value place made }
-{
-    Decision { value, place, made }
-}
-
-pub fn refusing(home: HomeNumbers, refusal: u64) -> Decision
-    ensures { result ≡ refusing home refusal }
-{
-    serving(0, NO_PLACE, home_rules::refused_move(home, refusal))
-}
+use layout::places::{self, HOME_LAST_TAKEN, HOME_MARKS, HOME_PHASE, TILE_NOC1};
+use numbers::refusals::Refusal;
 
 // The tile chosen is taken; none is chosen where it is not one of the bench's.
-fn taking_of(words: &[u64], count: u64, tile: u64) -> Decision
-    requires { (bench_words count ≤ length words.now) × (count ≤ most_tiles) × (home_size ≤ length words.now) }
+fn taking_of(words: &[u64], count: u64, tile: u64) -> Result<Decision, Refusal>
+    requires { HoldTiles words.now count }
     ensures turn { result ≡ taking_of words.now count tile }
-    ensures inside { result.place + queue_size ≤ length words.now }
+    ensures inside { IfOk result (λ d. HaveQueue words.now d.place) }
 {
-    let home = home_words::read_numbers(words);
-    if tile < count {
-        let place = HOME_WORDS + TILE_WORDS * (tile as usize) + TILE_NOC1;
-        serving(
-            tile,
-            place,
-            home_rules::take_front(home, tile, words[place]),
-        )
-    } else {
-        refusing(home, NOTHING_THERE)
+    if tile >= count {
+        return Err(Refusal::NothingThere);
     }
+    let home = home_words::read_numbers(words);
+    let place = places::tile_at(tile) + TILE_NOC1;
+    let made = home_rules::take_front(home, tile, words[place])?;
+    Ok(Decision {
+        value: tile,
+        place: Some(place),
+        made,
+    })
 }
 
-pub fn taking_decision(words: &[u64], count: u64) -> Decision
-    requires { (bench_words count ≤ length words.now) × (count ≤ most_tiles) × (home_size ≤ length words.now) × (get_or words.now home_last_taken_place 0 < most_tiles) }
+#[tactic(auto, unfolding(crate::specs::Takings::taking_decision))]
+pub fn taking_decision(words: &[u64], count: u64) -> Result<Decision, Refusal>
+    requires { HoldTiles words.now count × (get_or words.now home_last_taken_place 0 < most_tiles) }
     ensures turn { result ≡ taking_decision words.now count }
-    ensures inside { result.place + queue_size ≤ length words.now }
+    ensures inside { IfOk result (λ d. HaveQueue words.now d.place) }
 {
-    if words[HOME_PHASE] == PHASE_IDLE {
-        let ready = crate::round_robin::ready_tiles(words, count, words[HOME_MARKS]);
-        taking_of(
-            words,
-            count,
-            crate::round_robin::choose(ready, words[HOME_LAST_TAKEN]),
-        )
-    } else {
-        refusing(home_words::read_numbers(words), NOT_IDLE)
+    if words[HOME_PHASE] != PHASE_IDLE {
+        return Err(Refusal::NotIdle);
     }
+    let ready = crate::round_robin::ready_tiles(words, count, words[HOME_MARKS]);
+    let tile = crate::round_robin::choose(ready, words[HOME_LAST_TAKEN]);
+    taking_of(words, count, tile)
 }

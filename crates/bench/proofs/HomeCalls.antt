@@ -28,10 +28,16 @@ use Rattle.layout.proofs.Canonical.{home_canonical}
 use Rattle.layout.specs.Queues.{has_room, pop_row}
 use Rattle.tile_rules.specs.Steps.{tile_block}
 use Rattle.tile_rules.proofs.Rules.{rest_queue}
-use Rattle.home_rules.specs.declared.moves.HomeStep.{HomeStep}
 use Rattle.home_rules.specs.declared.moves.HomeNumbers.{HomeNumbers}
+use Rattle.std.specs.Prelude as std
+use Rattle.std.specs.Prelude.{Result, Some, None, Ok, Err}
+use Rattle.numbers.specs.declared.refusals.Refusal.{Refusal}
+use Rattle.numbers.specs.declared.refusals.Refusal.TheVariants.{NoTile, NotIdle, NothingThere}
+use Rattle.numbers.specs.Refusals.{refusal_number}
+use Rattle.home_rules.specs.declared.moves.HomeMove.{HomeMove}
 use Rattle.home_rules.specs.Moves as moves
 use Rattle.home_rules.specs.Steps as numbers
+use Rattle.home_rules.specs.Steps.{HomeStep}
 use Rattle.layout.specs.Range.{HomeIn}
 use Rattle.home_rules.specs.Results.{HomeResult, spread, enc_step, enc_front, Sends, taken_home, accepted_home, stepped_home, acked_home, evicted_home}
 use Rattle.home_rules.proofs.Rules.{first_row, take_is, accept_is, step_is, ack_is, evict_is}
@@ -47,16 +53,15 @@ use Rattle.home_words.specs.Forwards.{has_rooms}
 use Rattle.tile_words.proofs.InPlace.{put_noc1, put_noc3}
 use Rattle.home_words.proofs.Places.{pop_full}
 use Rattle.home_words.specs.Commits.{popped, answering, Committed}
-use Rattle.arbiter.specs.declared.takings.Decision.{Decision}
-use Rattle.arbiter.specs.Takings.{decision, refusing, taking_of, taking_decision}
+use Rattle.arbiter.specs.Takings.{decision, taking_of, taking_decision}
 use Rattle.arbiter.specs.Decisions.{reply_move, from_tile_decision, memory_ack_decision, eviction_decision, decision_of}
 use Rattle.bench.specs.Serves.{Serves}
 use Rattle.calls.proofs.Laid.{Laid, laid_tile, write_tile}
 use Rattle.calls.proofs.Decoded.{found, count, laid_out}
 use Rattle.calls.proofs.Meets.{Meets}
 use Rattle.home_words.proofs.Sending.{all_room, rooms_tiles}
-use Rattle.home_words.proofs.Committed.{committed}
-use Rattle.bench.proofs.Moved.{popped_at, as_accept, as_take, on_ack, on_evict}
+use Rattle.home_words.proofs.Committed.{committed, not_made}
+use Rattle.bench.proofs.Moved.{as_accept, as_take, on_ack, on_evict}
 use Rattle.bench.proofs.Searched.{option_of, choice, searched, choice_below, ready_chosen}
 
 -- the calls at the home alone: 0 memory step, 1 memory ack, else home eviction
@@ -301,21 +306,21 @@ module _ (l : List ℕ) (h : well_formed l ≡ true) where
     laid_with y b k e f w =
         subst (λ (z : List ℕ). Laid z H (set ts t y) r) (sym (w ∙ ap (λ (z : TileBlock). over l place (tile_block_words z)) e)) (write_tile l H ts r laid t y inside (subst TileFull e f))
 
-    laid_1 : Laid (popped l (place + 12)) H (set ts t (pop_noc1 x)) r
-    unfolding popped1 blocks.tile_block_at
+    laid_1 : Laid (popped l (Some (place + 12))) H (set ts t (pop_noc1 x)) r
+    unfolding popped popped1 blocks.tile_block_at
     laid_1 =
         let f = tile_full l place whole in
         let g = pop_full (blocks.pair_at l (place + 12)) f.noc1_full in
         laid_with (pop_noc1 x) (popped1 (blocks.tile_block_at l place)) _ (ap popped1 tile_block_lem ∙ pop1 x) (record { head_full = f.head_full; noc1_full = g; noc2_full = f.noc2_full; noc3_full = f.noc3_full })
-        (popped_at l (place + 12) (λ e. omega arith) ∙ (put_noc1 l _ place whole (pop_row (blocks.pair_at l (place + 12))) g refl).words)
+        ((put_noc1 l _ place whole (pop_row (blocks.pair_at l (place + 12))) g refl).words)
 
-    laid_3 : Laid (popped l (place + 60)) H (set ts t (pop_noc3 x)) r
-    unfolding popped3 blocks.tile_block_at
+    laid_3 : Laid (popped l (Some (place + 60))) H (set ts t (pop_noc3 x)) r
+    unfolding popped popped3 blocks.tile_block_at
     laid_3 =
         let f = tile_full l place whole in
         let g = pop_full (blocks.pair_at l (place + 60)) f.noc3_full in
         laid_with (pop_noc3 x) (popped3 (blocks.tile_block_at l place)) _ (ap popped3 tile_block_lem ∙ pop3 x) (record { head_full = f.head_full; noc1_full = f.noc1_full; noc2_full = f.noc2_full; noc3_full = g })
-        (popped_at l (place + 60) (λ e. omega arith) ∙ (put_noc3 l _ place whole (pop_row (blocks.pair_at l (place + 60))) g refl).words)
+        ((put_noc3 l _ place whole (pop_row (blocks.pair_at l (place + 60))) g refl).words)
 
     -- the front of a queue, read in place
     row_1 : blocks.row_at l (place + 12) ≡ (enc_tile x).noc1.a
@@ -332,7 +337,7 @@ module _ (l : List ℕ) (h : well_formed l ≡ true) where
 
     -- delivery from tile t
     pub from_done : (s : HomeStep) → s ≡ numbers.reply_step H t (blocks.row_at l (place + 60)) → (a : Answer) (m : List ℕ) →
-        Committed l (popped l (place + 60)) n 0 s a m → Meets l (step_on l (from_tile t)) a m
+        Committed l (popped l (Some (place + 60))) n 0 s a m → Meets l (step_on l (from_tile t)) a m
     from_done s is a m made =
         let y : Tile = pop_noc3 x in
         let numbers-are : s ≡ enc_step n B (accepted_home t (front (noc3 x)) home last marks memory out back) =
@@ -359,7 +364,7 @@ module _ (l : List ℕ) (h : well_formed l ≡ true) where
       take_step = ap (step taking) (read_as ∙ ap (λ (z : Home). bench_of z last marks memory out back ts) home_idle) ∙ ap (λ (o : Option ℕ). take_chosen o line marks memory out back ts) (found_here t below chosen)
 
       pub take_done : (s : HomeStep) → s ≡ numbers.taking_step H t (blocks.row_at l (place + 12)) → (a : Answer) (m : List ℕ) →
-          Committed l (popped l (place + 12)) n t s a m → Meets l (step_on l taking) a m
+          Committed l (popped l (Some (place + 12))) n t s a m → Meets l (step_on l taking) a m
       take_done s is a m made =
           let y : Tile = pop_noc1 x in
           let numbers-are : s ≡ enc_step n (enc_home n (idle line) last marks memory out back) (taken_home n t (front (noc1 x)) line marks memory out back) =
@@ -375,9 +380,6 @@ pub last_there : (l : List ℕ) → well_formed l ≡ true → get_or l 14 0 < g
 unfolding home_block_at blocks.row_at
 last_there l h = last_below l h
 
-pub of_turn : (l m : List ℕ) (n : ℕ) (d e : Decision) (a : Answer) → d ≡ e → Serves l n d a m → Serves l n e a m
-of_turn l m n d e a p s = subst (λ (z : Decision). Serves l n z a m) p s
-
 -- the calls as the code makes them, by their turns
 module _ (l : List ℕ) (h : well_formed l ≡ true) (a : Answer) (m : List ℕ) where
   abbrev tiles : ℕ
@@ -386,27 +388,29 @@ module _ (l : List ℕ) (h : well_formed l ≡ true) (a : Answer) (m : List ℕ)
   abbrev X : HomeNumbers
   X = numbers.numbers_in (home_block_at l)
 
-  -- a decision that refuses
-  refuses : (k : ℕ) (c : Call) → (k ≡ 0 → ⊥) → Meets l (step_on l c) (refusal k) l → Serves l tiles (refusing X k) a m → Meets l (step_on l c) a m
-  unfolding answering numbers.move_applied moves.refused_move
-  refuses k c wrong by made =
-      let w = made.refusing wrong in
-      record { answer = w.0 ∙ by.answer; words = w.1 ∙ by.words }
+  -- a call that is refused
+  refuses : (r : Refusal) (c : Call) → Meets l (step_on l c) (refusal (refusal_number r)) l → Serves l tiles (Err r) a m → Meets l (step_on l c) a m
+  refuses r c by w = record { answer = w.0 ∙ by.answer; words = w.1 ∙ by.words }
+
+  -- a decision, by its move, which may be refused
+  decided : (v : ℕ) (p : std.Option ℕ) (q : Result HomeMove Refusal) → Serves l tiles (decision v p q) a m → Committed l (popped l p) tiles v (answering l p q) a m
+  decided v p (Ok q) made = made
+  decided v p (Err r) w = not_made l tiles v p r a m w.0 w.1
 
   -- taking: of tile t, which the round robin chose
   takes : (t : ℕ) → t ≡ chosen (ready_from 0 l (get_or l 15 0) 0 tiles) (get_or l 14 0) → get_or l 1 0 ≡ 0 → Serves l tiles (taking_of l tiles t) a m → Meets l (step_on l taking) a m
-  unfolding taking_of home_block_at blocks.row_at
+  unfolding home_block_at blocks.row_at
   takes t e idle-now = go (ltb t tiles) refl
     where
       found_by : t ≡ choice l (get_or l 15 0) (get_or l 14 0) tiles
       found_by = e ∙ ready_chosen l (get_or l 15 0) tiles (get_or l 14 0) (found l h).most (last_there l h)
 
       go : (b : Bool) → ltb t tiles ≡ b →
-          Serves l tiles (cond b (decision t (74 + 84 * t + 12) (moves.take_front X t (get_or l (74 + 84 * t + 12) 0))) (refusing X 7)) a m → Meets l (step_on l taking) a m
+          Serves l tiles (cond b (decision t (Some (74 + 84 * t + 12)) (moves.take_front X t (get_or l (74 + 84 * t + 12) 0))) (Err NothingThere)) a m → Meets l (step_on l taking) a m
       go true b made =
-          take_done l h t (ltb-true t tiles b) idle-now found_by _ (as_take l (found l h).long (74 + 84 * t + 12) t (omega arith)) a m made
+          take_done l h t (ltb-true t tiles b) idle-now found_by _ (as_take l (found l h).long (74 + 84 * t + 12) t (omega arith)) a m (decided t (Some (74 + 84 * t + 12)) _ made)
       go false b made =
-          refuses 7 taking (λ z. omega arith) (none_taken l h idle-now (past (ltb (choice l (get_or l 15 0) (get_or l 14 0) tiles) 64) refl)) made
+          refuses NothingThere taking (none_taken l h idle-now (past (ltb (choice l (get_or l 15 0) (get_or l 14 0) tiles) 64) refl)) made
         where
           past : (d : Bool) → ltb (choice l (get_or l 15 0) (get_or l 14 0) tiles) 64 ≡ d → 64 ≤ choice l (get_or l 15 0) (get_or l 14 0) tiles
           past true q =
@@ -418,25 +422,25 @@ module _ (l : List ℕ) (h : well_formed l ≡ true) (a : Answer) (m : List ℕ)
   unfolding taking_decision home_block_at
   taking_serves = go (eqb (get_or l 1 0) 0) refl
     where
-      go : (b : Bool) → eqb (get_or l 1 0) 0 ≡ b → Serves l tiles (cond b (taking_of l tiles (chosen (ready_from 0 l (get_or l 15 0) 0 tiles) (get_or l 14 0))) (refusing X 6)) a m → Meets l (step_on l taking) a m
+      go : (b : Bool) → eqb (get_or l 1 0) 0 ≡ b → Serves l tiles (cond b (taking_of l tiles (chosen (ready_from 0 l (get_or l 15 0) 0 tiles) (get_or l 14 0))) (Err NotIdle)) a m → Meets l (step_on l taking) a m
       go true b made = takes _ refl (eqb-true (get_or l 1 0) 0 b) made
-      go false b made = refuses 6 taking (λ z. omega arith) (not_idle l h (eqb-false (get_or l 1 0) 0 b)) made
+      go false b made = refuses NotIdle taking (not_idle l h (eqb-false (get_or l 1 0) 0 b)) made
 
   from_serves : (t : ℕ) → Serves l tiles (from_tile_decision l tiles t) a m → Meets l (step_on l (from_tile t)) a m
   unfolding from_tile_decision
   from_serves t = go (ltb t tiles) refl
     where
-      go : (b : Bool) → ltb t tiles ≡ b → Serves l tiles (cond b (decision 0 (74 + 84 * t + 60) (reply_move l t (74 + 84 * t + 60))) (refusing X 2)) a m → Meets l (step_on l (from_tile t)) a m
-      go true b made = from_done l h t (ltb-true t tiles b) _ (as_accept l (found l h).long (74 + 84 * t + 60) t (omega arith)) a m made
-      go false b made = refuses 2 (from_tile t) (λ z. omega arith) (no_from l h t (ltb-false t tiles b)) made
+      go : (b : Bool) → ltb t tiles ≡ b → Serves l tiles (cond b (decision 0 (Some (74 + 84 * t + 60)) (reply_move l t (74 + 84 * t + 60))) (Err NoTile)) a m → Meets l (step_on l (from_tile t)) a m
+      go true b made = from_done l h t (ltb-true t tiles b) _ (as_accept l (found l h).long (74 + 84 * t + 60) t (omega arith)) a m (decided 0 (Some (74 + 84 * t + 60)) _ made)
+      go false b made = refuses NoTile (from_tile t) (no_from l h t (ltb-false t tiles b)) made
 
   ack_serves : Serves l tiles (memory_ack_decision l) a m → Meets l (step_on l memory_ack) a m
   unfolding memory_ack_decision alone home_step_on
-  ack_serves made = home_done l h 1 _ refl a m (on_ack l (found l h).long tiles 0 a m made)
+  ack_serves made = home_done l h 1 _ refl a m (on_ack l (found l h).long tiles 0 a m (decided 0 (Some 50) _ made))
 
   evict_serves : Serves l tiles (eviction_decision l) a m → Meets l (step_on l home_eviction) a m
   unfolding eviction_decision alone home_step_on
-  evict_serves made = home_done l h 2 _ refl a m (on_evict l (found l h).long tiles 0 a m made)
+  evict_serves made = home_done l h 2 _ refl a m (on_evict l (found l h).long tiles 0 a m (decided 0 None _ made))
 
   pub memory_serves_lem : (c t : ℕ) → c ≡ 22 → Committed l l tiles 0 (numbers.memory_step (home_block_at l)) a m → Meets l (step_on l (call_from home_calls c t 0 0)) a m
   unfolding alone home_step_on

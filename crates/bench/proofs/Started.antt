@@ -2,10 +2,12 @@
 use Prim.Native.Nat.{ℕ, suc, ◌+◌, ◌-◌, ◌*◌, ◌≤◌, ◌<◌}
 use mathlib.Core.Path.{◌≡◌, refl, ap, sym, ◌∙◌, subst}
 use mathlib.Core.List.{List, [], ◌∷◌, ◌++◌, append_assoc}
+use mathlib.Core.Logic.{◌⊎◌, inl, inr}
 use native.Mathlib.Omega.{arith}
-use native.Mathlib.Numerals.{add-one}
-use lib.ListN.{length, drop, replicate, set, length-append, length-replicate, replicate-append-replicate}
-use lib.Seq.{sets}
+use lib.ListN.{length, take, drop, replicate, set, length-append, length-replicate, replicate-append-replicate}
+use lib.Seq.{length-take-le, drop-drop}
+use borrow.Rule.Slice.PartMut.{put_mid}
+use Rattle.std.proofs.lemmas.List.{length-drop}
 use borrow.Author.Tests.{lt-ltb, le-ltb, le-leb, lt-leb}
 use Rattle.lists.specs.Over.{over}
 use Rattle.lists.proofs.OverLaws.{then_over}
@@ -19,16 +21,13 @@ use Rattle.protocol.specs.Answers.{sent_on, sent_to, answer_of, refusal}
 use Rattle.protocol.specs.declared.Answer.{Answer}
 use Rattle.calls.specs.Calls.{start_on, words_started}
 
--- one turn of the loop that clears, and its end
-module _ (l : List ℕ) (at n : ℕ) where
-  pub clear_turn : 0 < n → sets l at (replicate n 0) ≡ sets (set l at 0) (at + 1) (replicate (n - 1) 0)
-  clear_turn h = let e : n ≡ suc (n - 1) = omega arith in ap (λ (k : ℕ). sets l at (replicate k 0)) e ∙ ap (λ (k : ℕ). sets (set l at 0) k (replicate (n - 1) 0)) (sym (add-one at))
-
-  pub clear_end : n ≤ 0 → sets l at (replicate n 0) ≡ l
-  clear_end h = let e : n ≡ 0 = omega arith in ap (λ (k : ℕ). sets l at (replicate k 0)) e
-
-  pub cleared : at + n ≤ length l → sets l at (replicate n 0) ≡ over l at (replicate n 0)
-  cleared h = sets_over l at (replicate n 0) (omega (arith, length-replicate {A = ℕ} n 0))
+-- a part filled with 0
+pub cleared : (l ys : List ℕ) (at k n : ℕ) → at + n ≤ length l → k ≡ n → ys ≡ replicate (length (take k (drop at l))) 0 → put_mid at k l ys ≡ over l at (replicate n 0)
+unfolding over
+cleared l ys at k n h e f =
+    let part : length (take k (drop at l)) ≡ n = length-take-le k (drop at l) (omega (arith, length-drop at l)) ∙ e in
+    let behind : drop k (drop at l) ≡ drop (at + length (replicate n 0)) l = drop-drop k at l ∙ ap (λ (j : ℕ). drop (at + j) l) (e ∙ sym (length-replicate {A = ℕ} n 0)) in
+    ap (λ (z : List ℕ). take at l ++ (z ++ drop k (drop at l))) (f ∙ ap (λ (j : ℕ). replicate j 0) part) ∙ ap (λ (z : List ℕ). take at l ++ (replicate n 0 ++ z)) behind
 
 -- n fresh tiles are 84 n zeros
 fresh_tiles : (n : ℕ) → enc_tiles (replicate n fresh_tile) ≡ replicate (84 * n) 0
@@ -69,21 +68,18 @@ module _ (l : List ℕ) (n : ℕ) (mem : Words) where
   abbrev Starts : Answer → List ℕ → Type 0
   Starts a m = (a ≡ answer_of (start_on l n mem)) × (m ≡ words_started l n (start_on l n mem))
 
-  pub start_done : (m1 m2 m3 m4 : List ℕ) (x : Row) (a : Answer) → 0 < n → n ≤ 64 → 74 + 84 * n ≤ length l → m1 ≡ set l 0 n → m2 ≡ over m1 1 (replicate 13 0) →
-      x ≡ row (n - 1) 0 0 0 mem → length x.words ≡ 8 → m3 ≡ over m2 14 (row_words x) → m4 ≡ over m3 26 (replicate (74 + 84 * n - 26) 0) →
-      a ≡ record { refusal = 0; kind = 0; value = 0; sent = 0; tiles = 0 } → Starts a m4
+  pub start_done : (m1 m2 m3 m4 : List ℕ) (x : Row) → 0 < n → n ≤ 64 → 74 + 84 * n ≤ length l → m1 ≡ set l 0 n → m2 ≡ over m1 1 (replicate 13 0) →
+      x ≡ row (n - 1) 0 0 0 mem → length x.words ≡ 8 → m3 ≡ over m2 14 (row_words x) → m4 ≡ over m3 26 (replicate (74 + 84 * n - 26) 0) → Starts (record { refusal = 0; kind = 0; value = 0; sent = 0; tiles = 0 }) m4
   unfolding start_on answer_of words_started sent_on sent_to
-  start_done m1 m2 m3 m4 x a p q e e1 e2 is full e3 e4 b =
-      rw (lt-ltb 0 n p, le-leb n 64 q, le-leb (bench_words n) (length l) e) (b, started_words n mem l m1 m2 m3 m4 e (subst (λ (r : Row). length r.words ≡ 8) is full) e1 e2 (e3 ∙ ap (λ (r : Row). over m2 14 (row_words r)) is) e4)
+  start_done m1 m2 m3 m4 x p q e e1 e2 is full e3 e4 =
+      rw (lt-ltb 0 n p, le-leb n 64 q, le-leb (bench_words n) (length l) e) (refl, started_words n mem l m1 m2 m3 m4 e (subst (λ (r : Row). length r.words ≡ 8) is full) e1 e2 (e3 ∙ ap (λ (r : Row). over m2 14 (row_words r)) is) e4)
 
-  pub start_short : (a : Answer) → 0 < n → n ≤ 64 → length l < 74 + 84 * n → a ≡ refusal 1 → Starts a l
+  pub start_short : 0 < n → n ≤ 64 → length l < 74 + 84 * n → Starts (refusal 1) l
   unfolding start_on answer_of words_started
-  start_short a p q e b = rw (lt-ltb 0 n p, le-leb n 64 q, lt-leb (bench_words n) (length l) e) (b, refl)
+  start_short p q e = rw (lt-ltb 0 n p, le-leb n 64 q, lt-leb (bench_words n) (length l) e) (refl, refl)
 
-  pub start_many : (a : Answer) → 0 < n → 64 < n → a ≡ refusal 2 → Starts a l
+  -- 2: no tile, or too many
+  pub start_uncounted : (n ≡ 0) ⊎ ((n ≡ 0 → ⊥) × (64 < n)) → Starts (refusal 2) l
   unfolding start_on answer_of words_started
-  start_many a p q b = rw (lt-ltb 0 n p, lt-leb n 64 q) (b, refl)
-
-  pub start_none : (a : Answer) → n ≤ 0 → a ≡ refusal 2 → Starts a l
-  unfolding start_on answer_of words_started
-  start_none a p b = rw (le-ltb 0 n p) (b, refl)
+  start_uncounted (inl z) = rw (le-ltb 0 n (omega arith)) (refl, refl)
+  start_uncounted (inr h) = rw (lt-ltb 0 n (omega (arith, h.1)), lt-leb n 64 h.1) (refl, refl)

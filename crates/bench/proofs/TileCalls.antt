@@ -22,10 +22,20 @@ use Rattle.protocol.specs.Bench.{tile_at, settle, at_tile, outcome, send, send_t
 use Rattle.layout.specs.Encode.{enc_tile}
 use Rattle.layout.specs.Decode.{decoded, bench_from, dec_tiles}
 use Rattle.protocol.specs.Answers.{sent_on, sent_to, answer_of, refusal}
-use Rattle.tile_rules.specs.declared.moves.TileStep.{TileStep}
-use Rattle.tile_rules.specs.declared.moves.StepAnswer.{StepAnswer}
-use Rattle.tile_rules.specs.Steps.{tile_step_on}
-use Rattle.tile_words.specs.InPlace.{Stepped}
+use Rattle.std.specs.Prelude as std
+use Rattle.std.specs.Prelude.{Ok, Err}
+use Rattle.numbers.specs.declared.queues.Queues.{Queues}
+use Rattle.numbers.specs.declared.queues.Queues.TheVariants as queues
+use Rattle.numbers.specs.Kinds.{kind_number}
+use Rattle.numbers.specs.Queues.{queues_number}
+use Rattle.numbers.specs.declared.refusals.Refusal.{Refusal}
+use Rattle.numbers.specs.Refusals.{refusal_number}
+use Rattle.calls.specs.declared.answers.Accepted.{Accepted}
+use Rattle.calls.specs.Answers.{accepted_answer, tiles_of}
+use Rattle.home_words.proofs.Committed.{refusal_above}
+use Rattle.tile_words.specs.declared.StepAnswer.{StepAnswer}
+use Rattle.tile_rules.specs.Steps.{TileStep, tile_step_on}
+use Rattle.tile_words.specs.InPlace.{Stepped, Steps}
 use Rattle.tile_words.proofs.InPlace.{put_same}
 use Rattle.tile_rules.proofs.Rules.{own_one, own_to, own_all, enc_after, enc_step, rule_of, rule_numbers}
 use Rattle.protocol.specs.declared.Answer.{Answer}
@@ -163,6 +173,16 @@ own_tiles t (on_noc2 u m ∷ ms) own = absurd own
 own_tiles t (to_memory m ∷ ms) own = absurd own
 own_tiles t (from_memory m ∷ ms) own = absurd own
 
+-- the same by the queues
+tiles_are : (t : ℕ) (q : Queues) → tiles_of q t ≡ cond (eqb (queues_number q) 0) 0 (add64 0 t)
+tiles_are t queues.Nothing = refl
+tiles_are t queues.Noc1 = refl
+tiles_are t queues.Noc2 = refl
+tiles_are t queues.Noc3 = refl
+tiles_are t queues.ToMemory = refl
+tiles_are t queues.FromMemory = refl
+tiles_are t queues.Noc3ThenNoc1 = refl
+
 module _ (l : List ℕ) (c t w v : ℕ) (h : well_formed l ≡ true) where
   abbrev ts : List Tile
   ts = dec_tiles l 74 (get_or l 0 0)
@@ -222,18 +242,25 @@ module _ (l : List ℕ) (c t w v : ℕ) (h : well_formed l ≡ true) where
         go none e = ap (λ (z : TileStep). z.tile) e
         go (some z) e = absurd (wrong (ap (λ (z : TileStep). z.refusal) e))
 
+    placed : (at : ℕ) (r : std.Result StepAnswer Refusal) (m : List ℕ) → at ≡ 74 + 84 * t → Steps l at (tile_step_on c w v) r m → Stepped l (74 + 84 * t) s r m
+    placed at r m place q = subst (λ (z : TileStep). Stepped l (74 + 84 * t) z r m) (sym is) (subst (λ (z : ℕ). Steps l z (tile_step_on c w v) r m) place q)
+
     -- a step that is refused in place wrote nothing
-    pub refused_in_place : (q : StepAnswer) (m : List ℕ) → Stepped l (74 + 84 * t) s q m → (q.refusal ≡ 0 → ⊥) → Meets l (step_on l (call_from tile_calls c t w v)) (refusal q.refusal) m
-    refused_in_place q m p wrong =
+    pub refused_in_place : (at : ℕ) (r : Refusal) (m : List ℕ) → at ≡ 74 + 84 * t → Steps l at (tile_step_on c w v) (Err r) m → Meets l (step_on l (call_from tile_calls c t w v)) (refusal (refusal_number r)) m
+    refused_in_place at r m place q =
         let i : ℕ = 74 + 84 * t in
+        let p = placed at (Err r) m place q in
         let fits : i + 84 ≤ length l = omega (arith, (found l h).enough) in
-        let e : q.refusal ≡ s.refusal = ap (λ (z : StepAnswer). z.refusal) p.answer in
-        let no_step : s.refusal ≡ 0 → ⊥ = λ z. wrong (e ∙ z) in
+        let e : refusal_number r ≡ s.refusal = ap (λ (z : TileStep). z.refusal) p.answer in
+        let no_step : s.refusal ≡ 0 → ⊥ = λ z. omega (arith, refusal_above r, e, z) in
         let same : m ≡ l = p.put.words ∙ ap (λ (y : TileBlock). over l i (tile_block_words y)) (kept_by (rule_of c t w v x) step_numbers no_step ∙ sym block) ∙ sym (put_same l l i fits).words in
         subst (λ (k : ℕ). Meets l (step_on l (call_from tile_calls c t w v)) (refusal k) m) (sym e) (subst (Meets l (step_on l (call_from tile_calls c t w v)) (refusal s.refusal)) (sym same) (tile_refused no_step))
 
+    abbrev answer_given : TileStep → Answer
+    answer_given z = record { refusal = 0; kind = z.kind; value = z.value; sent = z.sent; tiles = cond (eqb z.sent 0) 0 (add64 0 t) }
+
     abbrev given : Answer
-    given = record { refusal = 0; kind = s.kind; value = s.value; sent = s.sent; tiles = cond (eqb s.sent 0) 0 (add64 0 t) }
+    given = answer_given s
 
     module _ (m : List ℕ) (full : TileFull s.tile) (written : m ≡ over l (74 + 84 * t) (tile_block_words s.tile)) where
       done_by_lem : (r : Result Tile) → Local t r → s ≡ enc_step (enc_tile x) r → s.refusal ≡ 0 → Meets l (settle t (decoded l) r) given m
@@ -259,9 +286,10 @@ module _ (l : List ℕ) (c t w v : ℕ) (h : well_formed l ≡ true) where
       pub tile_done : s.refusal ≡ 0 → Meets l (step_on l (call_from tile_calls c t w v)) given m
       tile_done zero = rw settled (done_by_lem (rule_of c t w v x) (rule_local c t w v x) step_numbers zero)
 
-    pub done_in_place : (q : StepAnswer) (m : List ℕ) → Stepped l (74 + 84 * t) s q m → q.refusal ≡ 0 →
-        Meets l (step_on l (call_from tile_calls c t w v)) (record { refusal = 0; kind = q.kind; value = q.value; sent = q.sent; tiles = cond (eqb q.sent 0) 0 (add64 0 t) }) m
-    done_in_place q m p zero =
-        let e : q.refusal ≡ s.refusal = ap (λ (z : StepAnswer). z.refusal) p.answer in
-        subst (λ (z : StepAnswer). Meets l (step_on l (call_from tile_calls c t w v)) (record { refusal = 0; kind = z.kind; value = z.value; sent = z.sent; tiles = cond (eqb z.sent 0) 0 (add64 0 t) }) m)
-        (sym p.answer) (tile_done m p.put.full p.put.words (sym e ∙ zero))
+    pub done_in_place : (at : ℕ) (q : StepAnswer) (m : List ℕ) (b : Accepted) → at ≡ 74 + 84 * t → Steps l at (tile_step_on c w v) (Ok q) m → b ≡ record { kind = q.kind; value = q.value; sent = q.sent; tiles = tiles_of q.sent t } →
+        Meets l (step_on l (call_from tile_calls c t w v)) (accepted_answer b) m
+    done_in_place at q m b place made e =
+        let p = placed at (Ok q) m place made in
+        let zero : s.refusal ≡ 0 = sym (ap (λ (z : TileStep). z.refusal) p.answer) in
+        let is : accepted_answer b ≡ given = ap accepted_answer e ∙ ap (λ (z : ℕ). record { refusal = 0; kind = kind_number q.kind; value = q.value; sent = queues_number q.sent; tiles = z }) (tiles_are t q.sent) ∙ ap answer_given p.answer in
+        subst (λ (z : Answer). Meets l (step_on l (call_from tile_calls c t w v)) z m) (sym is) (tile_done m p.put.full p.put.words zero)

@@ -2,6 +2,8 @@
 // input, by crate calls' answer_to and after_call.
 // - starting: start; tile: the calls at a tile; home: the calls at the home
 // - specs/Serves: a device of the proofs
+// at_tile and at_home take a tag of any value, and so a number: every tag has its answer. The nine calls stand by name beside them:
+// docs/PROVED.md names each.
 #![tactic(auto)]
 
 mod home;

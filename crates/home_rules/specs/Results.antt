@@ -12,8 +12,7 @@ use Rattle.layout.specs.Encode.{no_row, enc_forward, enc_home}
 use Rattle.protocol.specs.Parts.{Words, Queue, reading, writing, Request, load_req, store_req, wb_guard_req, Forward, Reply, wb_req, load_fwd_ack_s, load_fwd_ack_i, store_fwd_ack, inv_fwd_ack, ToMemory, load_mem, store_mem, FromMemory, load_mem_ack, store_mem_ack, Message, on_noc1, on_noc2, on_noc3, to_memory, from_memory, Tile, Line, absent, present, Home, idle, awaiting_load, awaiting_owner, awaiting_acks, awaiting_store, Bench, bench_of, Result, refused, task, storing}
 use Rattle.protocol.specs.Home.{Move, move, members, serve, write_back, load_ack_s, load_ack_i, store_ack, inv_ack, acknowledged, evict_line}
 use Rattle.protocol.specs.Bench.{push, front, rest, send_one, outcome, kind_of}
-use Rattle.home_rules.specs.declared.moves.HomeStep.{HomeStep}
-use Rattle.home_rules.specs.Steps.{step_of, refused_step}
+use Rattle.home_rules.specs.Steps.{HomeStep, step_of, refused_step}
 
 -- a refusal number; or home, last taken, marks, memory, queues to and from memory, and messages sent
 pub data HomeResult : Type 0 where

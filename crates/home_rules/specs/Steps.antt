@@ -1,10 +1,11 @@
 -- A device of the proofs: no public promise rests on it alone. The home's steps on its block: its moves (Moves.antt) applied, and the
 -- memory's step. A message for tiles has still to be put on NoC2 of every tile of the mask `to`; one to or from memory is on its queue.
-use Rattle.std.specs.Prelude.{ℕ, cond, List, eqb}
+use Rattle.std.specs.Prelude.{ℕ, cond, List, eqb, Result, Ok, Err}
 use Rattle.numbers.specs.Types.{no_message_type, data_ack_type, load_mem_type, store_mem_type, load_mem_ack_type, store_mem_ack_type}
-use Rattle.numbers.specs.Queues.{no_queue_number, noc2_queue, from_memory_queue}
-use Rattle.numbers.specs.Kinds.{kind_other, kind_sent}
-use Rattle.numbers.specs.Refusals.{no_refusal, nothing_there_refusal, queue_full_refusal}
+use Rattle.numbers.specs.Queues.{no_queue_number, noc2_queue, from_memory_queue, queues_number}
+use Rattle.numbers.specs.Kinds.{kind_other, kind_sent, kind_number}
+use Rattle.numbers.specs.declared.refusals.Refusal.{Refusal}
+use Rattle.numbers.specs.Refusals.{no_refusal, nothing_there_refusal, queue_full_refusal, refusal_number}
 use Rattle.layout.specs.Blocks.{message_type, message_state, message_flag, line_valid, line_dirty, line_directory_number, line_holders, control_last_taken, control_marks, control_requester, control_owed}
 use Rattle.layout.specs.declared.rows.Row.{Row}
 use Rattle.layout.specs.declared.rows.Pair.{Pair}
@@ -13,9 +14,21 @@ use Rattle.layout.specs.Encode.{row, no_row, zeros}
 use Rattle.layout.specs.Queues.{push_row, pop_row}
 use Rattle.home_rules.specs.declared.moves.HomeNumbers.{HomeNumbers}
 use Rattle.home_rules.specs.declared.moves.HomeMove.{HomeMove}
-use Rattle.home_rules.specs.declared.moves.HomeStep.{HomeStep}
+use Rattle.home_rules.specs.declared.moves.LineSource.{LineSource}
+use Rattle.home_rules.specs.declared.moves.LineSource.TheVariants.{Stay, Clear, OfMessage}
 use Rattle.home_rules.specs.Moves as moves
-use Rattle.home_rules.specs.Moves.{numbers_of}
+use Rattle.home_rules.specs.declared.moves.Sending.{Sending}
+use Rattle.home_rules.specs.declared.moves.Sending.TheVariants.{Silent, Memory, Tiles}
+use Rattle.home_rules.specs.Moves.{numbers_of, kind_of, queues_of, tiles_of}
+
+-- A step of the home: what it answers, the block after it, and the message for the tiles of the mask `to`.
+pub record HomeStep : Type 0 where
+  pub refusal : ℕ
+  pub kind : ℕ
+  pub home : HomeBlock
+  pub sent : ℕ
+  pub to : ℕ
+  pub forward : Row
 
 abbrev pub block_of : ℕ → ℕ → Row → Row → Pair → Pair → HomeBlock
 block_of n p x c out back = record { count = n; phase = p; line = x; control = c; out = out; back = back }
@@ -50,23 +63,38 @@ unfoldable pub with_outgoing : Row → HomeBlock → HomeBlock
 with_outgoing m x = block_of x.count x.phase x.line x.control (push_row x.out m) x.back
 
 -- the line's words after a move, by where they come from: as they were, all 0, or those of the message, ws
-unfoldable pub words_from : ℕ → List ℕ → List ℕ → List ℕ
-words_from w kept ws = cond (eqb w moves.words_stay) kept (cond (eqb w moves.words_clear) zeros ws)
+unfoldable pub words_from : LineSource → List ℕ → List ℕ → List ℕ
+words_from Stay kept ws = kept
+words_from Clear kept ws = zeros
+words_from OfMessage kept ws = ws
 
--- a message of type o to memory, if any: STORE_MEM has the line's words
-unfoldable pub outgoing_put : ℕ → HomeBlock → HomeBlock
-outgoing_put o x = cond (eqb o no_message_type) x (with_outgoing (row o 0 0 0 (cond (eqb o store_mem_type) x.line.words zeros)) x)
+-- a message of type o to memory: STORE_MEM has the line's words
+unfoldable pub memory_put : ℕ → HomeBlock → HomeBlock
+memory_put o x = with_outgoing (row o 0 0 0 (cond (eqb o store_mem_type) x.line.words zeros)) x
 
--- the message that a move has for tiles: DATA_ACK has the line's words
-unfoldable pub forward_of : HomeMove → HomeBlock → Row
-forward_of m x = row m.message 0 m.state m.miss (cond (eqb m.message data_ack_type) x.line.words zeros)
+-- what a move sends to memory, put on its queue
+unfoldable pub outgoing_put : Sending → HomeBlock → HomeBlock
+outgoing_put Silent x = x
+outgoing_put (Memory o) x = memory_put o x
+outgoing_put (Tiles to m state miss) x = x
 
--- a move applied to a block, where ws are the words of the message that it answers
+-- the message for tiles: DATA_ACK has the line's words
+unfoldable pub forward_row : ℕ → ℕ → ℕ → HomeBlock → Row
+forward_row m state miss x = row m 0 state miss (cond (eqb m data_ack_type) x.line.words zeros)
+
+-- what a move has for tiles
+unfoldable pub forward_of : Sending → HomeBlock → Row
+forward_of Silent x = no_row
+forward_of (Memory o) x = no_row
+forward_of (Tiles to m state miss) x = forward_row m state miss x
+
+-- A move applied to a block, where ws are the words of the message that it answers. A refusal leaves the block as it was.
 unfoldable pub line_after_move : HomeBlock → List ℕ → HomeMove → HomeBlock
 line_after_move x ws m = with_words (words_from m.source x.line.words ws) (with_numbers m.home x)
 
-unfoldable pub move_applied : HomeBlock → List ℕ → HomeMove → HomeStep
-move_applied x ws m = step_of m.refusal m.kind (outgoing_put m.outgoing (line_after_move x ws m)) m.sent m.to (forward_of m (line_after_move x ws m))
+unfoldable pub move_applied : HomeBlock → List ℕ → Result HomeMove Refusal → HomeStep
+move_applied x ws (Ok m) = step_of no_refusal (kind_number (kind_of m.sends)) (outgoing_put m.sends (line_after_move x ws m)) (queues_number (queues_of m.sends)) (tiles_of m.sends) (forward_of m.sends (line_after_move x ws m))
+move_applied x ws (Err r) = refused_step x (refusal_number r)
 
 -- Taking of tile t, whose NoC1 front is m, and delivery from it, whose NoC3 front is m (all 0: none).
 unfoldable pub taking_step : HomeBlock → ℕ → Row → HomeStep

@@ -1,59 +1,46 @@
 // The home gives up its line (01's home eviction).
+// Functions, no methods: each bears the name of its definition, whose first argument is the home, and is read beside it.
 ghost use Rattle.std.specs.Prelude.{◌≡◌};
 ghost use Rattle.home_rules.specs.Moves.{evict_shared, evict_valid, evict_line};
 
-use crate::moves::{HomeMove, HomeNumbers, NONE, NOT_VALID, WORDS_STAY};
+use crate::moves::{HomeMove, HomeNumbers, LineSource, NONE, NOT_VALID};
 use layout::codes::{
     DIRECTORY_I, DIRECTORY_S, PHASE_ACKS_FOR_EVICTION, PHASE_IDLE, PHASE_OWNER_FOR_EVICTION,
 };
-use numbers::refusals::{NO_LINE, NOT_IDLE};
+use numbers::refusals::Refusal;
 use numbers::types::STORE_FWD;
 
 // An empty mask of sharers acts as directory I.
-fn evict_shared(home: HomeNumbers) -> HomeMove
+fn evict_shared(home: HomeNumbers) -> Result<HomeMove, Refusal>
     ensures { result ≡ evict_shared home }
 {
     if home.holders == NONE {
-        crate::moves::leave(home, home.dirty, WORDS_STAY)
+        home.leave(home.dirty, LineSource::Stay)
     } else {
-        crate::moves::invalidate(
-            home,
-            home.holders,
-            home.holders,
-            PHASE_ACKS_FOR_EVICTION,
-            NONE,
-        )
+        Ok(home.invalidate(home.holders, home.holders, PHASE_ACKS_FOR_EVICTION, NONE))
     }
 }
 
-fn evict_valid(home: HomeNumbers) -> HomeMove
+fn evict_valid(home: HomeNumbers) -> Result<HomeMove, Refusal>
     ensures { result ≡ evict_valid home }
 {
-    let directory = home.directory;
-    match directory {
-        DIRECTORY_I => crate::moves::leave(home, home.dirty, WORDS_STAY),
+    match home.directory {
+        DIRECTORY_I => home.leave(home.dirty, LineSource::Stay),
         DIRECTORY_S => evict_shared(home),
-        _ => crate::moves::ask_owner(
-            home,
-            home.holders,
-            PHASE_OWNER_FOR_EVICTION,
-            NONE,
-            STORE_FWD,
-        ),
+        _ => Ok(home.ask_owner(home.holders, PHASE_OWNER_FOR_EVICTION, NONE, STORE_FWD)),
     }
 }
 
 // 6 is tested before 5.
-pub fn evict_line(home: HomeNumbers) -> HomeMove
+#[tactic(auto, unfolding(crate::specs::Moves::evict_line))]
+pub fn evict_line(home: HomeNumbers) -> Result<HomeMove, Refusal>
     ensures { result ≡ evict_line home }
 {
-    if home.phase == PHASE_IDLE {
-        if home.valid == NOT_VALID {
-            crate::moves::refused_move(home, NO_LINE)
-        } else {
-            evict_valid(home)
-        }
-    } else {
-        crate::moves::refused_move(home, NOT_IDLE)
+    if home.phase != PHASE_IDLE {
+        return Err(Refusal::NotIdle);
     }
+    if home.valid == NOT_VALID {
+        return Err(Refusal::NoLine);
+    }
+    evict_valid(home)
 }

@@ -13,6 +13,6 @@ mod requests;
 
 pub use eviction::evict_line;
 pub use memory::memory_ack;
-pub use moves::{HomeMove, HomeNumbers, HomeStep, refused_move};
+pub use moves::{HomeMove, HomeNumbers, LineSource, Sending};
 pub use replies::accept_reply;
 pub use requests::take_front;

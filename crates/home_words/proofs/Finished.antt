@@ -18,8 +18,7 @@ use Rattle.protocol.specs.Home.{range, among, members}
 use Rattle.protocol.specs.Bench.{outcome, kind_of}
 use Rattle.layout.specs.Encode.{enc_forward, enc_home, encode}
 use Rattle.protocol.specs.Answers.{sent_on, sent_to}
-use Rattle.home_rules.specs.declared.moves.HomeStep.{HomeStep}
-use Rattle.home_rules.specs.Steps.{refused_step, forward_step}
+use Rattle.home_rules.specs.Steps.{HomeStep, refused_step, forward_step}
 use Rattle.home_rules.specs.Results.{HomeResult, went, spread, forward_all, forward_to, forward_one, enc_step, targets, forward_row, forwards_to, Sends, refuses, silent, sends_forwards, sends_to_memory, sends_from_memory}
 use Rattle.home_rules.proofs.Forwards.{add_small, told_targets, told_step}
 use Rattle.home_words.specs.Forwards.{forward_put_at, forward_put_all}

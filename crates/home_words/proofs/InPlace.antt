@@ -3,21 +3,20 @@ use Prim.Native.Nat.{ℕ, ◌+◌, ◌≤◌}
 use mathlib.Core.Path.{◌≡◌, refl, ap, sym, ◌∙◌, subst}
 use mathlib.Core.List.{List, [], ◌∷◌, ◌++◌, append_assoc, append-nil}
 use native.Mathlib.Omega.{arith}
-use lib.ListN.{length, set, drop, length-append}
-use borrow.Author.Tests.{eq-eqb, ne_eqb}
+use lib.ListN.{length, set, take, drop, length-append}
+use lib.Seq.{take_all}
 use Rattle.lists.specs.Over.{over}
 use Rattle.lists.proofs.OverLaws.{then_over}
 use Rattle.layout.specs.declared.rows.Row.{Row}
 use Rattle.layout.specs.declared.rows.Pair.{Pair}
 use Rattle.layout.specs.declared.rows.HomeBlock.{HomeBlock}
-use Rattle.layout.specs.Blocks.{row_at, pair_at, home_block_at, row_words, pair_words, home_block_words, PairFull, HomeFull}
+use Rattle.layout.specs.Blocks.{pair_at, home_block_at, row_words, pair_words, home_block_words, PairFull, HomeFull}
 use Rattle.layout.proofs.Over.{sets_over, home_words_lem, length_row, length_pair, length_home}
 use Rattle.layout.proofs.Reading.{home_full, home_front, over_behind, over_front}
-use Rattle.layout.specs.Encode.{zeros, row}
 use Rattle.layout.specs.Queues.{push_row, pop_row}
 use Rattle.layout.proofs.Parts.{over_read}
-use Rattle.home_rules.specs.Steps.{block_of, with_words, words_from, with_outgoing, outgoing_put, without_ack, with_memory}
-use Rattle.home_words.specs.InPlace.{HomePut, PutsHome, with_phase, with_control, with_memory_words, without_request, with_answer, with_source}
+use Rattle.home_rules.specs.Steps.{block_of, with_words, with_outgoing, without_ack, with_memory}
+use Rattle.home_words.specs.InPlace.{HomePut, with_phase, with_control, with_memory_words, without_request, with_answer}
 
 -- one piece of what was written, written again
 over_inner : (l P X vs Q : List ℕ) (a : ℕ) → length P ≡ a → length X ≡ length vs → over (over l 0 (P ++ (X ++ Q))) a vs ≡ over l 0 (P ++ (vs ++ Q))
@@ -45,11 +44,18 @@ pub home_read : (l m : List ℕ) (x : HomeBlock) → HomePut l x m → home_bloc
 unfolding over
 home_read l m x p = ap home_block_at p.words ∙ home_front x _ p.full
 
--- one change after another
-pub home_then : (f : HomeBlock → HomeBlock) (l m n : List ℕ) (x : HomeBlock) → HomePut l x m → PutsHome m f n → HomePut l (f x) n
-home_then f l m n x p q =
-    let r : HomePut m (f x) n = subst (λ (y : HomeBlock). HomePut m (f y) n) (home_read l m x p) q in
-    record { words = r.words ∙ ap (λ (z : List ℕ). over z 0 (home_block_words (f x))) p.words ∙ home_home l x (f x) p.full r.full; full = r.full }
+-- the home's words are the front of a bench's; and written back there
+pub front_is : (l t : List ℕ) → 74 ≤ length l → t ≡ take 74 l → home_block_at t ≡ home_block_at l
+front_is l t h e = ap home_block_at (e ∙ sym (home_words_lem l h) ∙ sym (append-nil (home_block_words (home_block_at l)))) ∙ home_front (home_block_at l) [] (home_full l h)
+
+pub placed : (l u : List ℕ) (x : HomeBlock) → length u ≡ 74 → home_block_at u ≡ x → HomePut l x (u ++ drop 74 l)
+unfolding over
+placed l u x n e =
+    let fits : 74 ≤ length u = omega arith in
+    let behind : 0 + length u ≡ 74 = omega arith in
+    let whole : home_block_words (home_block_at u) ≡ u = home_words_lem u fits ∙ take_all 74 u (omega arith) in
+    let put : HomePut l (home_block_at u) (u ++ drop 74 l) = record { words = ap (λ (k : ℕ). u ++ drop k l) (sym behind) ∙ sym (ap (over l 0) whole); full = home_full u fits } in
+    subst (λ (z : HomeBlock). HomePut l z (u ++ drop 74 l)) e put
 
 module _ (l m : List ℕ) (h : 74 ≤ length l) where
   abbrev x : HomeBlock
@@ -57,10 +63,6 @@ module _ (l m : List ℕ) (h : 74 ≤ length l) where
 
   H : HomeFull x
   H = home_full l h
-
-  -- nothing written
-  pub home_same : HomePut l x l
-  home_same = record { words = sym (self l h); full = H }
 
   -- the words A, X and B of the block, with X replaced by vs
   part : (A X B vs : List ℕ) (i : ℕ) → A ++ (X ++ B) ≡ home_block_words x → length A ≡ i → length X ≡ length vs → m ≡ over l i vs → m ≡ over l 0 (A ++ (vs ++ B))
@@ -158,29 +160,3 @@ module _ (l m : List ℕ) (h : 74 ≤ length l) where
   pub acked_at : PairFull (pop_row (pair_at l 50)) → m ≡ over l 50 (pair_words (pop_row (pair_at l 50))) → HomePut l (without_ack x) m
   unfolding without_ack home_block_at
   acked_at f e = put_back (pop_row (pair_at l 50)) f e
-
-  -- the line's words, by where they come from
-  pub source_kept : (w : ℕ) (ws : List ℕ) → w ≡ 0 → HomePut l (with_source w ws x) l
-  unfolding words_from with_words
-  source_kept w ws e = rw (eq-eqb w 0 e) home_same
-
-  pub source_none : (w : ℕ) (ws : List ℕ) → (w ≡ 0 → ⊥) → w ≡ 1 → HomePut l (with_words zeros x) m → HomePut l (with_source w ws x) m
-  unfolding words_from
-  source_none w ws a e p = rw (ne_eqb w 0 a, eq-eqb w 1 e) p
-
-  pub source_new : (w : ℕ) (ws : List ℕ) → (w ≡ 0 → ⊥) → (w ≡ 1 → ⊥) → HomePut l (with_words ws x) m → HomePut l (with_source w ws x) m
-  unfolding words_from
-  source_new w ws a b p = rw (ne_eqb w 0 a, ne_eqb w 1 b) p
-
-  -- the message to memory
-  pub out_none : (o : ℕ) → o ≡ 0 → HomePut l (outgoing_put o x) l
-  unfolding outgoing_put
-  out_none o e = rw (eq-eqb o 0 e) home_same
-
-  pub out_store : (o : ℕ) (d r : Row) → (o ≡ 0 → ⊥) → o ≡ 20 → d ≡ row_at l 2 → r ≡ row o 0 0 0 d.words → HomePut l (with_outgoing r x) m → HomePut l (outgoing_put o x) m
-  unfolding outgoing_put home_block_at
-  out_store o d r a b e q p = rw (ne_eqb o 0 a, eq-eqb o 20 b) (subst (λ (z : Row). HomePut l (with_outgoing z (home_block_at l)) m) (q ∙ ap (λ (z : Row). row o 0 0 0 z.words) e) p)
-
-  pub out_load : (o : ℕ) (r : Row) → (o ≡ 0 → ⊥) → (o ≡ 20 → ⊥) → r ≡ row o 0 0 0 zeros → HomePut l (with_outgoing r x) m → HomePut l (outgoing_put o x) m
-  unfolding outgoing_put
-  out_load o r a b q p = rw (ne_eqb o 0 a, ne_eqb o 20 b) (subst (λ (z : Row). HomePut l (with_outgoing z x) m) q p)

@@ -1,41 +1,40 @@
 -- A device of the proofs: no public promise rests on it alone. A home step committed to the words, with its message put on NoC2 of every
 -- tile of a mask. That this is document 01's step is proved (proofs/Committed.antt).
-use Rattle.std.specs.Prelude.{ℕ, cond, true, false, List, ◌≡◌, eqb, length}
+use Rattle.std.specs.Prelude.{ℕ, true, false, List, ◌≡◌, length, ◌+◌, ◌≤◌, Option, None, Some, IfSome, Result}
 use Rattle.numbers.specs.Limits.{words_in_line}
+use Rattle.numbers.specs.declared.refusals.Refusal.{Refusal}
 use Rattle.numbers.specs.Refusals.{no_refusal, queue_full_refusal}
 use Rattle.lists.specs.Over.{over}
-use Rattle.layout.specs.Places.{home_size}
+use Rattle.layout.specs.Places.{home_size, queue_size}
 use Rattle.layout.specs.Blocks.{row_at, pair_at, home_block_at, pair_words, home_block_words, HomeFull}
 use Rattle.layout.specs.Encode.{zeros}
 use Rattle.layout.specs.Queues.{pop_row}
 use Rattle.protocol.specs.declared.Answer.{Answer}
 use Rattle.protocol.specs.Answers.{refusal}
 use Rattle.home_rules.specs.declared.moves.HomeMove.{HomeMove}
-use Rattle.home_rules.specs.declared.moves.HomeStep.{HomeStep}
-use Rattle.home_rules.specs.Steps.{move_applied}
+use Rattle.home_rules.specs.Steps.{HomeStep, move_applied}
 use Rattle.home_words.specs.Forwards.{has_rooms, forward_put_all}
 
 -- the answer of a home step, with value v
 abbrev pub home_answer : HomeStep → ℕ → Answer
 home_answer s v = record { refusal = no_refusal; kind = s.kind; value = v; sent = s.sent; tiles = s.to }
 
--- the answer of a move, with value v
-abbrev pub move_answer : HomeMove → ℕ → Answer
-move_answer m v = record { refusal = no_refusal; kind = m.kind; value = v; sent = m.sent; tiles = m.to }
+-- words that have a queue at a place, if it is one
+abbrev pub HaveQueue : List ℕ → Option ℕ → Type 0
+HaveQueue l p = IfSome p (λ at. at + queue_size ≤ length l)
 
--- The place of no queue: a move that answers no message.
-abbrev pub no_place : ℕ
-no_place = 0
+-- The words without the front message of the queue at a place, and the data of that message; at no place no message is answered. And the
+-- step of a move that answers it.
+unfoldable pub popped : List ℕ → Option ℕ → List ℕ
+popped l None = l
+popped l (Some i) = over l i (pair_words (pop_row (pair_at l i)))
 
--- The words without the front message of the queue at place i, and the data of that message. And the step of a move that answers it.
-unfoldable pub popped : List ℕ → ℕ → List ℕ
-popped l i = cond (eqb i no_place) l (over l i (pair_words (pop_row (pair_at l i))))
+unfoldable pub front_words : List ℕ → Option ℕ → List ℕ
+front_words l None = zeros
+front_words l (Some i) = (row_at l i).words
 
-unfoldable pub front_words : List ℕ → ℕ → List ℕ
-front_words l i = cond (eqb i no_place) zeros (row_at l i).words
-
-unfoldable pub answering : List ℕ → ℕ → HomeMove → HomeStep
-answering l i m = move_applied (home_block_at (popped l i)) (front_words l i) m
+unfoldable pub answering : List ℕ → Option ℕ → Result HomeMove Refusal → HomeStep
+answering l p m = move_applied (home_block_at (popped l p)) (front_words l p) m
 
 -- m is k with the block of the home step s, and its message on its tiles' queues
 pub record Finishes (k : List ℕ) (n : ℕ) (s : HomeStep) (m : List ℕ) : Type 0 where

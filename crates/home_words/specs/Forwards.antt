@@ -1,14 +1,19 @@
 -- A device of the proofs: no public promise rests on it alone. A message put on NoC2 of every tile of a mask, and whether there is room
 -- for it. That this is document 01's sending is proved (proofs/Sending.antt).
-use Rattle.std.specs.Prelude.{ℕ, suc, ◌+◌, Bool, cond, true, ◌&&◌, List}
+use Rattle.std.specs.Prelude.{ℕ, suc, ◌+◌, Bool, cond, true, ◌&&◌, List, ◌≤◌, length}
 use Rattle.lists.specs.Over.{over}
 use Rattle.masks.specs.Mask.{has}
 use Rattle.layout.specs.declared.rows.Row.{Row}
 use Rattle.layout.specs.declared.rows.TileBlock.{TileBlock}
 use Rattle.layout.specs.Places.{tile_size}
-use Rattle.layout.specs.Blocks.{tile_block_at, tile_block_words}
+use Rattle.numbers.specs.Limits.{most_tiles}
+use Rattle.layout.specs.Blocks.{bench_words, tile_block_at, tile_block_words}
 use Rattle.layout.specs.Queues.{has_room, push_row}
 use Rattle.tile_rules.specs.Steps.{tile_block}
+
+-- words that are enough for the home and n tiles, which are at most 64
+abbrev pub HoldTiles : List ℕ → ℕ → Type 0
+HoldTiles l n = (bench_words n ≤ length l) × (n ≤ most_tiles)
 
 -- tile i, whose block is at place `at`, has room on NoC2 or is not in the mask
 unfoldable pub has_room_for : List ℕ → ℕ → ℕ → ℕ → Bool

@@ -1,91 +1,86 @@
 // The memory's step: the front message to it is answered. LOAD_MEM reads its words, STORE_MEM replaces them.
-ghost use Rattle.std.specs.Prelude.{◌≡◌, ◌≤◌, length};
-ghost use Rattle.numbers.specs.Limits.{most_tiles};
+ghost use Rattle.std.specs.Prelude.{◌≡◌, length};
 ghost use Rattle.layout.specs.Places.{home_size};
-ghost use Rattle.layout.specs.Blocks.{bench_words, home_block_at};
+ghost use Rattle.layout.specs.Blocks.{home_block_at};
+ghost use Rattle.calls.specs.Answers.{told};
 ghost use Rattle.home_rules.specs.Steps.{memory_answers, memory_step};
-ghost use Rattle.home_words.specs.InPlace.{PutsHome, with_memory_words, without_request, with_answer, memory_stepped};
+ghost use Rattle.home_words.specs.InPlace.{with_memory_words, without_request, with_answer, memory_stepped};
 ghost use Rattle.home_words.specs.Commits.{Committed};
+ghost use Rattle.home_words.specs.Forwards.{HoldTiles};
 
+use crate::Home;
+use calls::{Accepted, Answer};
 use layout::Row;
-use layout::places::{HOME_CONTROL_ROW, HOME_FROM_MEMORY, HOME_MEMORY, HOME_TO_MEMORY};
-use numbers::kinds::KIND_SENT;
+use layout::places::{HOME_FROM_MEMORY, HOME_MEMORY, HOME_TO_MEMORY, ROW_DATA};
+use numbers::kinds::Kind;
 use numbers::limits::LINE_LENGTH;
-use numbers::queues::FROM_MEMORY;
-use numbers::refusals::{NOTHING_THERE, QUEUE_FULL};
+use numbers::queues::Queues;
+use numbers::refusals::Refusal;
 use numbers::types::{LOAD_MEM, LOAD_MEM_ACK, NO_MESSAGE, STORE_MEM_ACK};
-use protocol::Answer;
 
-fn write_memory(words: &mut [u64], memory: [u64; LINE_LENGTH])
-    requires { home_size ≤ length words.old }
-    ensures { PutsHome words.old (with_memory_words memory) words.new }
+fn write_memory(home: &mut Home, memory: [u64; LINE_LENGTH])
+    ensures { home_block_at home.new ≡ with_memory_words memory (home_block_at home.old) }
 {
-    layout::write_eight(words, HOME_MEMORY, memory);
+    layout::write_eight(home, HOME_MEMORY, memory);
 }
 
-fn remove_request(words: &mut [u64])
-    requires { home_size ≤ length words.old }
-    ensures { PutsHome words.old without_request words.new }
+fn remove_request(home: &mut Home)
+    ensures { home_block_at home.new ≡ without_request (home_block_at home.old) }
 {
-    layout::pop_at(words, HOME_TO_MEMORY);
+    layout::pop_at(home, HOME_TO_MEMORY);
 }
 
-fn put_answer(words: &mut [u64], message: Row)
-    requires { home_size ≤ length words.old }
-    ensures { PutsHome words.old (with_answer message) words.new }
+fn put_answer(home: &mut Home, message: Row)
+    ensures { home_block_at home.new ≡ with_answer message (home_block_at home.old) }
 {
-    layout::push_at(words, HOME_FROM_MEMORY, message);
+    layout::push_at(home, HOME_FROM_MEMORY, message);
 }
 
 // The memory's words after the step, and its answer.
-fn make_memory_step(words: &mut [u64], memory: [u64; LINE_LENGTH], message: Row)
-    requires { home_size ≤ length words.old }
-    ensures { PutsHome words.old (memory_stepped memory message) words.new }
+#[tactic(auto, unfolding(home_rules::specs::Steps::with_memory))]
+fn make_memory_step(home: &mut Home, memory: [u64; LINE_LENGTH], message: Row)
+    ensures stepped { home_block_at home.new ≡ memory_stepped memory message (home_block_at home.old) }
+    ensures full { length home.new ≡ home_size }
 {
-    write_memory(words, memory);
-    remove_request(words);
-    put_answer(words, message);
+    write_memory(home, memory);
+    remove_request(home);
+    put_answer(home, message);
 }
 
 fn commit_memory(words: &mut [u64], count: u64, memory: [u64; LINE_LENGTH], message: Row) -> Answer
-    requires { (bench_words count ≤ length words.old) × (count ≤ most_tiles) }
-    ensures { Committed words.old words.old count 0 (memory_answers (home_block_at words.old) memory message) result words.new }
+    requires { HoldTiles words.old count }
+    ensures { Committed words.old words.old count 0 (memory_answers (home_block_at words.old) memory message) (told result) words.new }
 {
-    let room = layout::has_room_at(words, HOME_FROM_MEMORY);
-    if room {
-        make_memory_step(words, memory, message);
-        calls::accepted(KIND_SENT, 0, FROM_MEMORY, 0)
-    } else {
-        calls::refused(QUEUE_FULL)
+    if !layout::has_room_at(words, HOME_FROM_MEMORY) {
+        return Err(Refusal::QueueFull);
     }
+    let Some(home) = words.first_chunk_mut() else {
+        unreachable!()
+    };
+    make_memory_step(home, memory, message);
+    Ok(Accepted {
+        kind: Kind::Sent,
+        value: 0,
+        sent: Queues::FromMemory,
+        tiles: 0,
+    })
 }
 
 pub fn memory_step(words: &mut [u64], count: u64) -> Answer
-    requires { (bench_words count ≤ length words.old) × (count ≤ most_tiles) }
-    ensures { Committed words.old words.old count 0 (memory_step (home_block_at words.old)) result words.new }
+    requires { HoldTiles words.old count }
+    ensures { Committed words.old words.old count 0 (memory_step (home_block_at words.old)) (told result) words.new }
 {
-    let request = words[HOME_TO_MEMORY];
-    match request {
-        NO_MESSAGE => calls::refused(NOTHING_THERE),
+    match words[HOME_TO_MEMORY] {
+        NO_MESSAGE => Err(Refusal::NothingThere),
         LOAD_MEM => {
-            let row = layout::read_row(words, HOME_CONTROL_ROW);
-            let memory = row.words;
-            commit_memory(
-                words,
-                count,
-                memory,
-                layout::row_of(LOAD_MEM_ACK, 0, 0, 0, memory),
-            )
+            let memory = layout::read_eight(words, HOME_MEMORY);
+            let acked = layout::row_of(LOAD_MEM_ACK, 0, 0, 0, memory);
+            commit_memory(words, count, memory, acked)
         }
         _ => {
-            let row = layout::read_row(words, HOME_TO_MEMORY);
-            let stored = row.words;
-            commit_memory(
-                words,
-                count,
-                stored,
-                layout::bare_row(STORE_MEM_ACK, 0, 0, 0),
-            )
+            let stored = layout::read_eight(words, HOME_TO_MEMORY + ROW_DATA);
+            let acked = layout::bare_row(STORE_MEM_ACK, 0, 0, 0);
+            commit_memory(words, count, stored, acked)
         }
     }
 }

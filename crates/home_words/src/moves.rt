@@ -1,82 +1,74 @@
-// What a move of the home changes in its block, at the front of a bench's words. A message to memory is put on its queue here.
-ghost use Rattle.std.specs.Prelude.{◌≡◌, ◌≤◌, length};
-ghost use Rattle.layout.specs.Places.{home_size};
+// What a move of the home changes in its block, at the front of a bench's words, and the messages that it sends.
+ghost use Rattle.std.specs.Prelude.{◌≡◌};
 ghost use Rattle.layout.specs.Blocks.{home_block_at};
-ghost use Rattle.home_rules.specs.Steps.{with_words, with_outgoing, outgoing_put, forward_of};
-ghost use Rattle.home_words.specs.InPlace.{PutsHome, with_source, move_made};
+ghost use Rattle.home_rules.specs.Steps.{with_words, with_outgoing, memory_put, forward_row};
+ghost use Rattle.home_words.specs.InPlace.{with_source, move_made};
 
-use home_rules::HomeMove;
-use home_rules::moves::{WORDS_CLEAR, WORDS_STAY};
+use crate::Home;
+use home_rules::{HomeMove, LineSource, Sending};
 use layout::Row;
-use layout::places::{HOME_LINE, HOME_LINE_ROW, HOME_TO_MEMORY};
+use layout::places::{HOME_LINE, HOME_TO_MEMORY};
 use numbers::limits::LINE_LENGTH;
-use numbers::types::{DATA_ACK, NO_MESSAGE, STORE_MEM};
+use numbers::types::{DATA_ACK, STORE_MEM};
 
-fn write_line(words: &mut [u64], line: [u64; LINE_LENGTH])
-    requires { home_size ≤ length words.old }
-    ensures { PutsHome words.old (with_words line) words.new }
+fn write_line(home: &mut Home, line: [u64; LINE_LENGTH])
+    ensures { home_block_at home.new ≡ with_words line (home_block_at home.old) }
 {
-    layout::write_eight(words, HOME_LINE, line);
+    layout::write_eight(home, HOME_LINE, line);
 }
 
 // The line's words by where they come from; `carried` are those of the message that is answered.
-fn write_source(words: &mut [u64], source: u64, carried: [u64; LINE_LENGTH])
-    requires { home_size ≤ length words.old }
-    ensures { PutsHome words.old (with_source source carried) words.new }
+#[tactic(auto, unfolding(home_rules::specs::Steps::words_from, home_rules::specs::Steps::with_words))]
+fn write_source(home: &mut Home, source: LineSource, carried: [u64; LINE_LENGTH])
+    ensures { home_block_at home.new ≡ with_source source carried (home_block_at home.old) }
 {
-    if source == WORDS_STAY {} else {
-        if source == WORDS_CLEAR {
-            write_line(words, [0; LINE_LENGTH]);
-        } else {
-            write_line(words, carried);
-        }
+    match source {
+        LineSource::Stay => {}
+        LineSource::Clear => write_line(home, [0; LINE_LENGTH]),
+        LineSource::OfMessage => write_line(home, carried),
     }
 }
 
-fn put_outgoing(words: &mut [u64], message: Row)
-    requires { home_size ≤ length words.old }
-    ensures { PutsHome words.old (with_outgoing message) words.new }
+fn put_outgoing(home: &mut Home, message: Row)
+    ensures { home_block_at home.new ≡ with_outgoing message (home_block_at home.old) }
 {
-    layout::push_at(words, HOME_TO_MEMORY, message);
+    layout::push_at(home, HOME_TO_MEMORY, message);
 }
 
-// A message of this type to memory, if any; STORE_MEM has the line's words.
-fn put_outgoing_of(words: &mut [u64], outgoing: u64)
-    requires { home_size ≤ length words.old }
-    ensures { PutsHome words.old (outgoing_put outgoing) words.new }
+// A message of this type to memory; STORE_MEM has the line's words.
+#[tactic(auto, unfolding(home_rules::specs::Steps::memory_put, layout::specs::Blocks::home_block_at, layout::specs::Blocks::row_at))]
+fn put_to_memory(home: &mut Home, message: u64)
+    ensures { home_block_at home.new ≡ memory_put message (home_block_at home.old) }
 {
-    if outgoing == NO_MESSAGE {} else {
-        if outgoing == STORE_MEM {
-            let row = layout::read_row(words, HOME_LINE_ROW);
-            let line = row.words;
-            put_outgoing(words, layout::row_of(outgoing, 0, 0, 0, line));
-        } else {
-            put_outgoing(words, layout::bare_row(outgoing, 0, 0, 0));
-        }
+    if message == STORE_MEM {
+        let line = layout::read_eight(home, HOME_LINE);
+        put_outgoing(home, layout::row_of(message, 0, 0, 0, line));
+    } else {
+        put_outgoing(home, layout::bare_row(message, 0, 0, 0));
     }
 }
 
 // A move, but for its message to tiles.
-pub fn make_move(words: &mut [u64], made: HomeMove, carried: [u64; LINE_LENGTH])
-    requires { home_size ≤ length words.old }
-    ensures { PutsHome words.old (move_made carried made) words.new }
+#[tactic(auto, unfolding(home_rules::specs::Steps::line_after_move, home_rules::specs::Steps::with_numbers, home_rules::specs::Steps::outgoing_put))]
+pub fn make_move(home: &mut Home, made: HomeMove, carried: [u64; LINE_LENGTH])
+    ensures { home_block_at home.new ≡ move_made carried made (home_block_at home.old) }
 {
-    crate::fields::write_numbers(words, made.home);
-    write_source(words, made.source, carried);
-    put_outgoing_of(words, made.outgoing);
+    crate::fields::write_numbers(home, made.home);
+    write_source(home, made.source, carried);
+    if let Sending::Memory(message) = made.sends {
+        put_to_memory(home, message);
+    }
 }
 
 // The message of a move to tiles, once it is made; DATA_ACK has the line's words.
-pub fn forward_of(words: &[u64], made: HomeMove) -> Row
-    requires { home_size ≤ length words.now }
-    ensures { result ≡ forward_of made (home_block_at words.now) }
+#[tactic(auto, unfolding(home_rules::specs::Steps::forward_row, layout::specs::Blocks::home_block_at, layout::specs::Blocks::row_at))]
+pub fn forward_row(home: &Home, message: u64, state: u64, miss: u64) -> Row
+    ensures { result ≡ forward_row message state miss (home_block_at home.now) }
 {
-    let message = made.message;
     if message == DATA_ACK {
-        let row = layout::read_row(words, HOME_LINE_ROW);
-        let line = row.words;
-        layout::row_of(message, 0, made.state, made.miss, line)
+        let line = layout::read_eight(home, HOME_LINE);
+        layout::row_of(message, 0, state, miss, line)
     } else {
-        layout::bare_row(message, 0, made.state, made.miss)
+        layout::bare_row(message, 0, state, miss)
     }
 }

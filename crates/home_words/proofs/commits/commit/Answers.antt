@@ -1,17 +1,10 @@
-use mathlib.Core.Path.{refl, sym, ◌∙◌}
-use Rattle.home_words.proofs.Committed.{move_refused, move_full, move_done}
-use Rattle.layout.specs.Blocks.{home_block_at}
-use Rattle.home_words.specs.Commits.{popped, front_words, answering}
+use Rattle.home_words.proofs.Committed.{move_full, move_done}
 use Rattle.home_words.proofs.commits.commit.Goals as goal
 
-pub returns-then-room : goal.returns-then-room
-unfolding answering
-returns-then-room c = move_done c.args.words.now (popped c.args.words.now c.args.at) c.args.count c.args.value (home_block_at (popped c.args.words.now c.args.at)) (front_words c.args.words.now c.args.at) c.args.made _ _ c.if-made-eq-ACCEPTED.true (sym c.has_rooms-room.ensures ∙ c.if-room.true) c.accepted.ensures c.commit_answering.ensures
+pub returns-then-not-has_rooms : goal.returns-then-not-has_rooms
+returns-then-not-has_rooms c = move_full c.args.words.now c.args.count c.args.decision.value c.args.decision.place c.args.decision.made _ c.tiles-tiles.ensures _ c.has_rooms.ensures c.if-not-has_rooms.true
 
-pub returns-else-room : goal.returns-else-room
-unfolding answering
-returns-else-room c = move_full c.args.words.now (popped c.args.words.now c.args.at) c.args.count c.args.value (home_block_at (popped c.args.words.now c.args.at)) (front_words c.args.words.now c.args.at) c.args.made _ _ c.if-made-eq-ACCEPTED.true (sym c.has_rooms-room.ensures ∙ c.if-room.false) c.refused.ensures refl
-
-pub returns-else-made-eq-ACCEPTED : goal.returns-else-made-eq-ACCEPTED
-unfolding answering
-returns-else-made-eq-ACCEPTED c = move_refused c.args.words.now (popped c.args.words.now c.args.at) c.args.count c.args.value (home_block_at (popped c.args.words.now c.args.at)) (front_words c.args.words.now c.args.at) c.args.made _ _ c.if-made-eq-ACCEPTED.false c.refused-else-made-eq-ACCEPTED.ensures refl
+pub returns : goal.returns
+returns c =
+    let taken = c.take_front-carried.ensures in
+    move_done c.args.words.now c.args.count c.args.decision.value c.args.decision.place c.args.decision.made _ c.tiles-tiles.ensures _ c.has_rooms.ensures _ _ _ c.commit_move.ensures c.if-not-has_rooms.false taken.carried taken.after _ _ c.kind.ensures c.queues.ensures

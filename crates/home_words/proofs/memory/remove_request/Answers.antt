@@ -1,5 +1,6 @@
-use Rattle.home_words.proofs.InPlace.{served_at}
+use native.Mathlib.Omega.{arith}
+use Rattle.home_words.proofs.InPlace.{home_read, served_at}
 use Rattle.home_words.proofs.memory.remove_request.Goals as goal
 
 pub returns : goal.returns
-returns c = served_at _ _ c.requires c.pop_at.ensures.full c.pop_at.ensures.words_after
+returns c = home_read _ _ _ (served_at _ _ (omega arith) c.pop_at.ensures.full c.pop_at.ensures.words_after)
