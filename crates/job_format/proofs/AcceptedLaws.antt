@@ -7,10 +7,9 @@ use native.Mathlib.Omega.{arith}
 use lib.Dec.{eqb, ltb, leb}
 use lib.ListN.{length}
 use borrow.Author.Tests.{lt-ltb, le-ltb, ltb-true, ltb-false, eqb-true, eqb-false, leb-true}
-use Rattle.job_format.specs.declared.check.Checked.{Checked}
 use Rattle.job_format.specs.Bytes.{tag_at, next_at}
 use Rattle.job_format.specs.Fields.{is_tag, value_length, tag_in_place, good_value, field_refusal}
-use Rattle.job_format.specs.Check.{job_accepted, job_refused, check_end, check_fields, check_job}
+use Rattle.job_format.specs.Check.{Checked, job_accepted, job_refused, check_end, check_fields, check_job}
 use Rattle.job_format.specs.Job.{tile_count_of, line_address_of, calls_of, job_call_at}
 use Rattle.job_format.specs.Accepted.{CallsToEnd, none, one, AcceptedStatement, calls_at}
 use Rattle.job_format.proofs.CallLaws.{tag_in, next_in, calls_end, calls_step}

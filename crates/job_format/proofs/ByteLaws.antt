@@ -1,13 +1,13 @@
 -- Big-endian numbers read byte by byte. Assumes nothing.
-use Prim.Native.Nat.{ℕ, ◌+◌, ◌*◌, ◌^◌, ◌≤◌, ◌<◌}
-use mathlib.Core.Path.{◌≡◌, sym}
+use Prim.Native.Nat.{ℕ, ◌+◌, ◌*◌, ◌^◌, ◌<◌}
+use mathlib.Core.Path.{◌≡◌}
 use mathlib.Core.List.{List}
 use native.Mathlib.Nat.{pow-suc, pow-le-pow_right, le_trans}
 use native.Mathlib.Numerals.{add-one}
 use native.Mathlib.Omega.{arith}
 use lib.Arith.{digits_lt}
 use lib.Dec.{lit<}
-use lib.ListN.{length, get_or, get_or-eq_default}
+use lib.ListN.{get_or}
 use Rattle.job_format.specs.Bytes.{big_at}
 
 -- one byte more
@@ -21,14 +21,3 @@ below_more i acc b h k = rw (add-one, pow-suc) (digits_lt h k)
 -- up to eight bytes fit a word
 pub eight_fit : (i acc b : ℕ) → i < 8 → acc < 256 ^ i → b < 256 → acc * 256 + b < 2 ^ 64
 eight_fit i acc b l h k = le_trans (below_more i acc b h k) (pow-le-pow_right {n = 256} (lit< tt) {i = i + 1} {j = 8} (omega arith))
-
--- all bytes read
-pub all_read : (job : List ℕ) (at n i acc : ℕ) → i ≤ n → n ≤ i → acc ≡ big_at i job at → acc ≡ big_at n job at
-all_read job at n i acc h k e = let s : i ≡ n = omega arith in rw (s) at e
-
-pub all_below : (n i acc : ℕ) → i ≤ n → n ≤ i → acc < 256 ^ i → acc < 256 ^ n
-all_below n i acc h k e = let s : i ≡ n = omega arith in rw (s) at e
-
--- what stands past the end
-pub past_end : (job : List ℕ) (at : ℕ) → length job ≤ at → 0 ≡ get_or job at 0
-past_end job at h = sym (get_or-eq_default job 0 {n = at} h)

@@ -7,10 +7,11 @@ use native.Mathlib.Omega.{arith}
 use lib.Dec.{eqb, ltb, leb}
 use lib.ListN.{length}
 use borrow.Author.Tests.{lt-ltb, le-ltb, eq-eqb, ne_eqb, leb-true}
-use Rattle.job_format.specs.declared.check.Checked.{Checked}
+use Rattle.numbers.specs.declared.refusals.Refusal.{Refusal}
+use Rattle.numbers.specs.Refusals.{refusal_number}
 use Rattle.job_format.specs.Bytes.{tag_at, length_at, next_at}
 use Rattle.job_format.specs.Fields.{is_tag, value_length, tag_in_place, good_value, first_failed, field_refusal}
-use Rattle.job_format.specs.Check.{job_refused, check_end, check_fields}
+use Rattle.job_format.specs.Check.{Checked, job_refused, check_end, check_fields}
 
 -- all six tests of a field hold
 pub record Passed (head tag len whole place value : Bool) : Type 0 where
@@ -83,8 +84,12 @@ pub field_passed : (job : List ℕ) (at k number : ℕ) → at < length job → 
 field_passed job at k number h e z = fields_step (length job - at) job at k h (omega arith) ∙ rw (eq-eqb (field_refusal job at k) 0 (sym e ∙ z))
 
 -- a turn of the loop: the place stays within the job, and what is left to check gives the same answer
-pub turn : (job : List ℕ) (total : Checked) (at k number said : ℕ) → at < length job → k ≤ at → total ≡ check_fields (length job - at) job at k →
-    number ≡ field_refusal job at k → number ≡ 0 → said ≡ length_at job at →
-    (at + 3 + said ≤ length job) × (k + 1 ≤ at + 3 + said) × (total ≡ check_fields (length job - (at + 3 + said)) job (at + 3 + said) (k + 1))
-turn job total at k number said h l e f z s =
+pub turn : (job : List ℕ) (total : Checked) (at k number next : ℕ) → at < length job → k ≤ at → total ≡ check_fields (length job - at) job at k →
+    number ≡ field_refusal job at k → number ≡ 0 → next ≡ next_at job at →
+    (next ≤ length job) × (k + 1 ≤ next) × (total ≡ check_fields (length job - next) job next (k + 1))
+turn job total at k number next h l e f z s =
     rw s (next_within job at k (sym f ∙ z), omega arith, e ∙ field_passed job at k number h f z)
+
+-- a field is refused by a number that is not 0
+pub refused_lem : (r : Refusal) → refusal_number r ≡ 0 → ⊥
+refused_lem r e = grind arith

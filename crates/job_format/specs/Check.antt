@@ -1,17 +1,27 @@
 -- The check of a whole job (01, 'Jobs'), field after field.
-use Rattle.std.specs.Prelude.{ℕ, suc, ◌+◌, cond, List, eqb, ltb, length}
+use Rattle.std.specs.Prelude.{ℕ, suc, ◌+◌, cond, List, eqb, ltb, length, Result, Ok, Err}
 use Rattle.numbers.specs.Limits.{most_job_bytes}
-use Rattle.numbers.specs.Refusals.{no_refusal, job_place_refusal, job_too_long_refusal}
+use Rattle.numbers.specs.Refusals.{no_refusal, job_place_refusal, job_too_long_refusal, refusal_number}
 use Rattle.job_format.specs.Places.{header_fields}
 use Rattle.job_format.specs.Bytes.{next_at}
 use Rattle.job_format.specs.Fields.{field_refusal}
-use Rattle.job_format.specs.declared.check.Checked.{Checked}
+use Rattle.job_format.specs.declared.check.JobFault.{JobFault}
+
+-- what a check answers: refusal 0 accepts the job, any other number is 01's, of the field at the offset
+pub record Checked : Type 0 where
+  pub refusal : ℕ
+  pub offset : ℕ
 
 abbrev pub job_refused : ℕ → ℕ → Checked
 job_refused number at = record { refusal = number; offset = at }
 
 abbrev pub job_accepted : Checked
 job_accepted = job_refused no_refusal 0
+
+-- what the code answers, in those numbers
+abbrev pub told_checked : Result Unit JobFault → Checked
+told_checked (Ok u) = job_accepted
+told_checked (Err f) = job_refused (refusal_number f.refusal) f.offset
 
 -- the job ends at a place, `before` fields standing before it: a missing header field is placed at the job's end
 unfoldable pub check_end : ℕ → ℕ → Checked

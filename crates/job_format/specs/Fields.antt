@@ -1,7 +1,8 @@
 -- The tags of a job's fields and the tests on one field (01, 'Jobs').
-use Rattle.std.specs.Prelude.{ℕ, ◌+◌, ◌%◌, Bool, cond, true, ◌&&◌, ◌||◌, List, [], ◌∷◌, eqb, ltb, leb, length}
+use Rattle.std.specs.Prelude.{ℕ, ◌+◌, ◌%◌, Bool, cond, true, ◌&&◌, ◌||◌, List, [], ◌∷◌, eqb, ltb, leb, length, Result, Ok, Err}
 use Rattle.numbers.specs.Limits.{most_tiles, line_bytes}
-use Rattle.numbers.specs.Refusals.{no_refusal, job_cut_refusal, job_tag_refusal, job_length_refusal, job_place_refusal, job_value_refusal}
+use Rattle.numbers.specs.Refusals.{no_refusal, job_cut_refusal, job_tag_refusal, job_length_refusal, job_place_refusal, job_value_refusal, refusal_number}
+use Rattle.numbers.specs.declared.refusals.Refusal.{Refusal}
 use Rattle.numbers.specs.Tags.{tag_tiles, tag_line, tag_memory, tag_load, tag_home_eviction}
 use Rattle.protocol.specs.Calls.{Arguments, no_argument, tile_only, tile_and_word, tile_word_and_value, CallRow, call_table}
 use Rattle.job_format.specs.Places.{head_bytes, tile_count_bytes, line_address_bytes, memory_bytes, tile_number_bytes, load_bytes, store_bytes, header_fields}
@@ -68,3 +69,8 @@ field_refusal job at before =
     (leb (next_at job at) (length job))
     (tag_in_place before (tag_at job at))
     (good_value job at)
+
+-- what the code answers of a field, in those numbers
+abbrev pub told_field : Result Unit Refusal → ℕ
+told_field (Ok u) = no_refusal
+told_field (Err r) = refusal_number r

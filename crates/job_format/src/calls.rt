@@ -1,17 +1,15 @@
 // The calls of an accepted job (01, 'Jobs'), one after the other behind its header.
-ghost use Rattle.std.specs.Prelude.{◌≡◌, ◌≤◌, length};
-ghost use Rattle.numbers.specs.Limits.{word_bytes};
-ghost use Rattle.job_format.specs.Job.{argument_at, job_call_at};
+ghost use Rattle.std.specs.Prelude.{◌≡◌};
+ghost use Rattle.job_format.specs.Job.{job_call_at};
 
-use crate::bytes::{big_at, byte_at, said_length};
-use crate::fields::value_length;
+use crate::fields::{Field, value_length};
 use crate::places::{
-    HEAD_BYTES, STORED_WORD_AT, TILE_NUMBER_AT, TILE_NUMBER_BYTES, WORD_BYTES, WORD_NUMBER_AT,
+    STORED_WORD_AT, TILE_NUMBER_AT, TILE_NUMBER_BYTES, WORD_BYTES, WORD_NUMBER_AT,
     WORD_NUMBER_BYTES,
 };
 
-// A call that a job holds, and the place of the field behind it.
-#[derive(Clone, Copy)]
+// A call that a job holds, and the place of the field behind it. Its tag stays the job's number: the bench's calls take it so.
+#[derive(Clone, Copy, Debug, PartialEq, Eq)]
 pub struct JobCall {
     pub tag: u64,
     pub tile: u64,
@@ -20,43 +18,29 @@ pub struct JobCall {
     pub next: usize,
 }
 
-// The argument that stands at `within` of the value, of `size` bytes, of the field at a place; 0 where the value ends before it.
-fn argument(job: &[u8], at: usize, size: usize, within: usize, count: usize) -> u64
-    requires { (at ≤ length job.now) × (within ≤ word_bytes) × (count ≤ word_bytes) }
-    ensures { result ≡ argument_at job.now at size within count }
-{
-    if within < size {
-        big_at(job, at + HEAD_BYTES + within, count)
-    } else {
-        0
-    }
-}
-
-fn job_call(tag: u64, tile: u64, word: u64, value: u64, next: usize) -> JobCall
-    ensures { result ≡ record { tag = tag; tile = tile; word = word; value = value; next = next } }
-{
-    JobCall {
-        tag,
-        tile,
-        word,
-        value,
-        next,
-    }
-}
-
 // The call in the field at a place, and the place of the next field. An accepted job's calls start behind its header.
+// No Option past the job's end: the definition `job_call_at` gives every place a call, and `duzh_run_call` reports its `next`.
+#[tactic(auto, using(std::proofs::lemmas::Bool::Decides::nat_tests), unfolding(crate::specs::Job::job_call_at, crate::specs::Job::call_numbers_at))]
 pub fn call_at(job: &[u8], at: usize) -> JobCall
     ensures { result ≡ job_call_at job.now at }
 {
-    if at < job.len() {
-        let tag = byte_at(job, at);
-        let size = value_length(tag);
-        let tile = argument(job, at, size, TILE_NUMBER_AT, TILE_NUMBER_BYTES);
-        let word = argument(job, at, size, WORD_NUMBER_AT, WORD_NUMBER_BYTES);
-        let value = argument(job, at, size, STORED_WORD_AT, WORD_BYTES);
-        let next = at + HEAD_BYTES + said_length(job, at);
-        job_call(tag, tile, word, value, next)
-    } else {
-        job_call(0, 0, 0, 0, at)
+    if at >= job.len() {
+        return JobCall {
+            tag: 0,
+            tile: 0,
+            word: 0,
+            value: 0,
+            next: at,
+        };
+    }
+    let field = Field { job, at };
+    let tag = field.tag();
+    let size = value_length(tag);
+    JobCall {
+        tag,
+        tile: field.argument::<TILE_NUMBER_BYTES>(size, TILE_NUMBER_AT),
+        word: field.argument::<WORD_NUMBER_BYTES>(size, WORD_NUMBER_AT),
+        value: field.argument::<WORD_BYTES>(size, STORED_WORD_AT),
+        next: field.next(),
     }
 }

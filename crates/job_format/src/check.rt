@@ -1,60 +1,61 @@
 // The check of a whole job (01, 'Jobs'), field after field.
 ghost use Rattle.std.specs.Prelude.{◌≡◌, length};
-ghost use Rattle.job_format.specs.Check.{job_refused, check_end, check_fields, check_job};
+ghost use Rattle.job_format.specs.Check.{told_checked, check_end, check_fields, check_job};
 
-use crate::bytes::said_length;
-use crate::fields::field_refusal;
-use crate::places::{HEAD_BYTES, HEADER_FIELDS};
+use crate::fields::Field;
+use crate::places::HEADER_FIELDS;
 use numbers::limits::MOST_JOB_BYTES;
-use numbers::refusals::{ACCEPTED, JOB_PLACE, JOB_TOO_LONG};
+use numbers::refusals::Refusal;
 
-// The answer of a check: refusal 0 accepts the job, any other number is 01's, of the field at the offset.
-#[derive(Clone, Copy)]
-pub struct Checked {
-    pub refusal: u64,
+// What a job is refused for, and the offset of the bad field.
+#[derive(Clone, Copy, Debug, PartialEq, Eq)]
+pub struct JobFault {
+    pub refusal: Refusal,
     pub offset: usize,
 }
 
-fn outcome(refusal: u64, offset: usize) -> Checked
-    ensures { result ≡ job_refused refusal offset }
-{
-    Checked { refusal, offset }
-}
-
-fn check_end(at: usize, before: usize) -> Checked
-    ensures { result ≡ check_end at before }
+// The job ends at a place, `before` fields standing before it.
+#[tactic(auto, using(std::proofs::lemmas::Bool::Decides::nat_tests), unfolding(crate::specs::Check::check_end))]
+fn check_end(at: usize, before: usize) -> Result<(), JobFault>
+    ensures { told_checked result ≡ check_end at before }
 {
     if before < HEADER_FIELDS {
-        outcome(JOB_PLACE, at)
-    } else {
-        outcome(ACCEPTED, 0)
+        return Err(JobFault {
+            refusal: Refusal::JobPlace,
+            offset: at,
+        });
     }
+    Ok(())
 }
 
-fn check_fields(job: &[u8]) -> Checked
-    ensures { result ≡ check_fields (length job.now) job.now 0 0 }
+fn check_fields(job: &[u8]) -> Result<(), JobFault>
+    ensures { told_checked result ≡ check_fields (length job.now) job.now 0 0 }
 {
     let mut at = 0;
     let mut before = 0;
+    // no `for`: a field's own length says where the next one stands
     while at < job.len() {
-        let next = at + HEAD_BYTES + said_length(job, at);
-        let number = field_refusal(job, at, before);
-        if number != ACCEPTED {
-            return outcome(number, at);
-        }
-        at = next;
+        let field = Field { job, at };
+        field.check(before).map_err(|refusal| JobFault {
+            refusal,
+            offset: at,
+        })?;
+        at = field.next();
         before += 1;
     }
     check_end(at, before)
 }
 
-// Checks a whole job: refused with 01's number and the offset of the bad field, or accepted.
-pub fn check_job(job: &[u8]) -> Checked
-    ensures { result ≡ check_job job.now }
+// Checks a whole job: accepted, or refused for what is wrong with its first bad field.
+#[tactic(auto, using(std::proofs::lemmas::Bool::Decides::nat_tests), unfolding(crate::specs::Check::check_job))]
+pub fn check_job(job: &[u8]) -> Result<(), JobFault>
+    ensures { told_checked result ≡ check_job job.now }
 {
-    if MOST_JOB_BYTES < job.len() {
-        outcome(JOB_TOO_LONG, MOST_JOB_BYTES)
-    } else {
-        check_fields(job)
+    if job.len() > MOST_JOB_BYTES {
+        return Err(JobFault {
+            refusal: Refusal::JobTooLong,
+            offset: MOST_JOB_BYTES,
+        });
     }
+    check_fields(job)
 }

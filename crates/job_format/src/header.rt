@@ -7,25 +7,29 @@ use crate::places::{
     LINE_ADDRESS_AT, LINE_ADDRESS_BYTES, MEMORY_AT, TILE_COUNT_AT, TILE_COUNT_BYTES, WORD_BYTES,
 };
 use numbers::limits::LINE_LENGTH;
+use std::array;
 
+#[tactic(auto, unfolding(crate::specs::Job::tile_count_of))]
 pub fn tile_count(job: &[u8]) -> u64
     ensures { result ≡ tile_count_of job.now }
 {
-    big_at(job, TILE_COUNT_AT, TILE_COUNT_BYTES)
+    big_at::<TILE_COUNT_BYTES>(job, TILE_COUNT_AT)
 }
 
+#[tactic(auto, unfolding(crate::specs::Job::line_address_of))]
 pub fn line_address(job: &[u8]) -> u64
     ensures { result ≡ line_address_of job.now }
 {
-    big_at(job, LINE_ADDRESS_AT, LINE_ADDRESS_BYTES)
+    big_at::<LINE_ADDRESS_BYTES>(job, LINE_ADDRESS_AT)
 }
 
 // One of the eight words of memory, 0 for any other.
+#[tactic(auto, using(std::proofs::lemmas::Bool::Decides::nat_tests), unfolding(crate::specs::Job::memory_word_of))]
 pub fn memory_word(job: &[u8], word: usize) -> u64
     ensures { result ≡ memory_word_of job.now word }
 {
     if word < LINE_LENGTH {
-        big_at(job, MEMORY_AT + word * WORD_BYTES, WORD_BYTES)
+        big_at::<WORD_BYTES>(job, MEMORY_AT + word * WORD_BYTES)
     } else {
         0
     }
@@ -35,14 +39,5 @@ pub fn memory_word(job: &[u8], word: usize) -> u64
 pub fn memory(job: &[u8]) -> [u64; LINE_LENGTH]
     ensures { result ≡ memory_words_of job.now }
 {
-    [
-        memory_word(job, 0),
-        memory_word(job, 1),
-        memory_word(job, 2),
-        memory_word(job, 3),
-        memory_word(job, 4),
-        memory_word(job, 5),
-        memory_word(job, 6),
-        memory_word(job, 7),
-    ]
+    array::from_fn(|word| memory_word(job, word))
 }

@@ -1,22 +1,25 @@
 -- Lines one after the other. Assumes nothing.
 use Prim.Native.Nat.{ℕ, ◌+◌, ◌≤◌, ◌<◌}
-use mathlib.Core.Path.{◌≡◌, refl, ap}
+use mathlib.Core.Path.{◌≡◌, refl, ap, ◌∙◌}
 use mathlib.Core.Bool.{Bool, true, false, cond}
 use mathlib.Core.List.{List, [], ◌∷◌, ◌++◌}
 use native.Mathlib.Numerals.{add-one}
 use native.Mathlib.Omega.{arith}
+use Rattle.std.specs.Prelude.{Result, Ok, Err}
+use Rattle.std.specs.Result.{result_unwrap_or}
+use Rattle.numbers.specs.declared.refusals.Refusal.{Refusal}
 use borrow.Author.Tests.{eqb-true}
 use lib.Dec.{eqb}
 use lib.ListN.{length, get_or, take, drop}
 use lib.Seq.{drop-cons, take_at, drop-length}
 use Rattle.lists.specs.Over.{over, Placed}
-use Rattle.messages.specs.declared.queues.BenchQueue.{BenchQueue}
+use Rattle.layout.specs.declared.queues.BenchQueue.{BenchQueue}
 use Rattle.messages.specs.Queues.{no_queue}
 use Rattle.messages.specs.declared.Sent.{Sent}
 use Rattle.messages.specs.Rows.{sent_at}
 use Rattle.flits.specs.Words.{Header}
 use Rattle.flits.specs.Table.{row_of, header_extra}
-use Rattle.flits.specs.Writing.{write_refusal, flits_of, written_of, buffer_of, Written}
+use Rattle.flits.specs.Writing.{write_refusal, flits_of, told_written, written_of, buffer_of, WriteAnswer}
 use Rattle.message_flits.specs.Fields.{message_fields, message_data}
 use Rattle.flits.proofs.Laws.{flits_length, write_fits}
 use Rattle.job_rules.specs.Buffers.{buffers_after, places_after, AllPlaced}
@@ -73,10 +76,17 @@ module _ (h : Header) (ws b : List ℕ) (eleven : length b ≡ 11) where
       go true = rw (← flits_length h ws) (take_at (flits_of h ws) _ (length (flits_of h ws)) refl)
       go false = refl
 
-module _ (line : ℕ) (m : Sent) (b after : List ℕ) (r : Written) (eleven : length b ≡ 11) (done : (r ≡ written_of (message_fields line m.queue m.tile m.row) (length (message_data m.row)) (length b) 0) × (after ≡ buffer_of (message_fields line m.queue m.tile m.row) (message_data m.row) b 0)) where
-  pub sent_le : r.flits ≤ 11
-  sent_le = omega (arith, ap (λ (x : Written). x.flits) done.0, written_le (message_fields line m.queue m.tile m.row) (message_data m.row) b eleven)
+module _ (line : ℕ) (m : Sent) (b after : List ℕ) (r : Result ℕ Refusal) (n : ℕ) (eleven : length b ≡ 11) (count : n ≡ result_unwrap_or r 0) (done : (told_written r ≡ written_of (message_fields line m.queue m.tile m.row) (length (message_data m.row)) (length b) 0) × (after ≡ buffer_of (message_fields line m.queue m.tile m.row) (message_data m.row) b 0)) where
+  count_is : n ≡ (written_of (message_fields line m.queue m.tile m.row) (length (message_data m.row)) (length b) 0).flits
+  count_is = count ∙ go r ∙ ap (λ (x : WriteAnswer). x.flits) done.0
+    where
+      go : (r : Result ℕ Refusal) → result_unwrap_or r 0 ≡ (told_written r).flits
+      go (Ok n) = refl
+      go (Err r) = refl
 
-  pub sent_take : take r.flits after ≡ sent_flits line m
+  pub sent_le : n ≤ 11
+  sent_le = omega (arith, count_is, written_le (message_fields line m.queue m.tile m.row) (message_data m.row) b eleven)
+
+  pub sent_take : take n after ≡ sent_flits line m
   unfolding sent_flits
-  sent_take = rw (done.0, done.1) (written_take (message_fields line m.queue m.tile m.row) (message_data m.row) b eleven)
+  sent_take = rw (count_is, done.1) (written_take (message_fields line m.queue m.tile m.row) (message_data m.row) b eleven)

@@ -12,7 +12,7 @@ use Rattle.lists.proofs.OverLaws.{over_nil, placed_put, placed_length, join}
 use Rattle.protocol.specs.Home.{members}
 use Rattle.coherence.proofs.Falls.{members_length}
 use Rattle.protocol.specs.declared.Answer.{Answer}
-use Rattle.messages.specs.declared.queues.BenchQueue.{BenchQueue}
+use Rattle.layout.specs.declared.queues.BenchQueue.{BenchQueue}
 use Rattle.messages.specs.Queues.{queue_of_each, noc3_then_noc1, sent_queues}
 use Rattle.messages.specs.declared.Sent.{Sent}
 use Rattle.messages.specs.Rows.{sent_at}

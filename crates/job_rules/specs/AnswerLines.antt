@@ -1,7 +1,7 @@
 -- The lines of an answer (01, 'Jobs'): the call's line, then one line for each message that it sent.
 use Rattle.std.specs.Prelude.{ℕ, cond, List, [], ◌∷◌, eqb, length}
 use Rattle.protocol.specs.declared.Answer.{Answer}
-use Rattle.messages.specs.declared.queues.BenchQueue.{BenchQueue}
+use Rattle.layout.specs.declared.queues.BenchQueue.{BenchQueue}
 use Rattle.messages.specs.Queues.{sent_queues}
 use Rattle.messages.specs.declared.Sent.{Sent}
 use Rattle.messages.specs.Rows.{sent_at}

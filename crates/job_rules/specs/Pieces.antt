@@ -1,5 +1,5 @@
 -- A job's run in pieces: how much of its listing (01, 'Jobs') each piece puts into a lent buffer, from the buffer's start on.
-use Rattle.std.specs.Prelude.{ℕ, suc, ◌+◌, ◌-◌, true, cond, List, [], ◌++◌, eqb, ltb, leb, length}
+use Rattle.std.specs.Prelude.{ℕ, suc, ◌+◌, ◌-◌, true, cond, List, [], ◌++◌, eqb, ltb, leb, length, Option, Some, None}
 use Rattle.numbers.specs.Refusals.{no_refusal}
 use Rattle.calls.specs.Calls.{after_call, start_on, words_started}
 use Rattle.listing.specs.Lines.{bench_line, end_line, refused_line}
@@ -10,8 +10,9 @@ use Rattle.job_format.specs.Job.{tile_count_of, line_address_of, memory_words_of
 use Rattle.job_rules.specs.Calls.{bench_call}
 use Rattle.job_rules.specs.Listing.{call_lines}
 use Rattle.job_rules.specs.Room.{bytes_of, most_call_bytes}
+use Rattle.job_rules.specs.declared.states.Rest.{Rest}
 use Rattle.job_rules.specs.declared.states.Run.{Run}
-use Rattle.job_rules.specs.RunStates.{Left, ended, run_of}
+use Rattle.job_rules.specs.RunStates.{Left, ended, rest_to_resume, run_of}
 
 -- the bytes bs, then what x puts
 unfoldable pub preceded : List ℕ → Left → Left
@@ -54,10 +55,14 @@ first_piece job len l =
     cond (ltb len most_call_bytes) (ended [] l)
     (cond (eqb (check_job job).refusal no_refusal) (accepted_piece job len l) (ended (refused_line (check_job job).refusal (check_job job).offset) l))
 
+-- what is left of a job gives a piece
+abbrev pub piece_of : List ℕ → ℕ → Option Rest → List ℕ → Left
+piece_of job len None l = ended [] l
+piece_of job len (Some r) l = piece_in job len 0 r.calls r.at l
+
 -- The next piece of a run that goes on. A run whose calls are not fewer than the bytes before its place is none.
 unfoldable pub next_piece : List ℕ → ℕ → Run → List ℕ → Left
-next_piece job len r l =
-    cond (ltb len most_call_bytes) (ended [] l) (cond r.going (cond (ltb r.calls r.at) (piece_in job len 0 r.calls r.at l) (ended [] l)) (ended [] l))
+next_piece job len r l = cond (ltb len most_call_bytes) (ended [] l) (piece_of job len (rest_to_resume r) l)
 
 -- one call
 abbrev pub call_left : List ℕ → ℕ → ℕ → ℕ → List ℕ → Left

@@ -16,7 +16,7 @@ use Rattle.calls.specs.Calls.{step_on, words_after, after_call}
 use Rattle.layout.specs.Blocks.{bench_words}
 use Rattle.theorems.specs.Messages.{Gives, LineAddress}
 use Rattle.theorems.proofs.Calls.{on_step, on_words, start_words}
-use Rattle.messages.specs.declared.queues.BenchQueue.{BenchQueue}
+use Rattle.layout.specs.declared.queues.BenchQueue.{BenchQueue}
 use Rattle.messages.specs.Queues.{no_queue, sent_queues}
 use Rattle.messages.specs.Rows.{sent_at, sent_message, numbers_of_message, no_sent}
 use Rattle.theorems.proofs.Messages.{sent_by_call}

@@ -11,10 +11,9 @@ use Rattle.calls.specs.Calls.{lent_words, start_on, words_started}
 use Rattle.protocol.specs.Runs.{runs}
 use Rattle.theorems.proofs.Calls.{started}
 use Rattle.listing.specs.Lines.{bench_line, end_line, refused_line}
-use Rattle.job_format.specs.declared.check.Checked.{Checked}
 use Rattle.job_format.specs.Bytes.{next_at}
 use Rattle.job_format.specs.Fields.{field_refusal}
-use Rattle.job_format.specs.Check.{job_accepted, job_refused, check_end, check_fields, check_job}
+use Rattle.job_format.specs.Check.{Checked, job_accepted, job_refused, check_end, check_fields, check_job}
 use Rattle.job_format.specs.Places.{header_bytes}
 use Rattle.job_format.specs.Job.{tile_count_of, line_address_of, memory_words_of, call_numbers_at, calls_of, CallNumbers}
 use Rattle.job_format.specs.Accepted.{calls_at}
@@ -24,7 +23,7 @@ use Rattle.job_rules.specs.Calls.{bench_call}
 use Rattle.job_rules.specs.Listing.{call_lines, lines_from, listing_of}
 use Rattle.job_theorems.specs.Rules.{rule_listing}
 use Rattle.job_theorems.proofs.Rules.{eight, by_the_rules}
-use Rattle.job_rules.specs.RunStates.{Left, ended, run_of}
+use Rattle.job_rules.specs.RunStates.{Left, ended, rest_to_resume, run_of}
 use Rattle.job_rules.specs.Room.{bytes_of, most_call_bytes}
 use Rattle.job_rules.specs.Pieces.{preceded, bytes_of_call, words_after_call, piece_from, piece_in, accepted_piece, first_piece, next_piece, last_from, words_printed}
 use Rattle.job_rules.proofs.Pieces.{one_call, piece_further, piece_moves}
@@ -81,7 +80,7 @@ record Goes (g : ℕ) (job : List ℕ) (x : Left) : Type 0 where
   enough : length job < g + x.at
 
 next_is : (job : List ℕ) (len : ℕ) (x : Left) → most_call_bytes ≤ len → x.going ≡ true → x.calls < x.at → next_piece job len (run_of 0 x) x.words ≡ piece_in job len 0 x.calls x.at x.words
-unfolding next_piece run_of
+unfolding next_piece rest_to_resume run_of
 next_is job len x h g f = rw (le-ltb len most_call_bytes h, g, lt-ltb x.calls x.at f)
 
 next_goes : (g : ℕ) (job : List ℕ) (len : ℕ) (x : Left) → x.going ≡ true → Goes (suc g) job x → (piece_in job len 0 x.calls x.at x.words).going ≡ true → Goes g job (piece_in job len 0 x.calls x.at x.words)

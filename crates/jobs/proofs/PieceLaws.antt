@@ -1,10 +1,11 @@
 -- Lines put where there is room for any call's, and call after call. Assumes nothing.
-use Prim.Native.Nat.{ℕ, zero, suc, ◌+◌, ◌-◌, ◌≤◌, ◌<◌}
-use mathlib.Core.Path.{◌≡◌, refl, ap, ap₂, sym, ◌∙◌}
-use mathlib.Core.Bool.{true, false, cond}
+use Prim.Native.Nat.{ℕ, zero, suc, ◌+◌, ◌≤◌, ◌<◌}
+use mathlib.Core.Path.{◌≡◌, refl, ap, sym, ◌∙◌}
+use mathlib.Core.Bool.{Bool, true, false, cond}
 use mathlib.Core.List.{List, [], ◌++◌, append_assoc, append-nil}
 use native.Mathlib.Omega.{arith}
-use borrow.Author.Tests.{le-leb, lt-leb, lt-ltb, le-ltb, eq-eqb, ne_eqb}
+use Rattle.std.proofs.Common.{Option, Some, None}
+use borrow.Author.Tests.{le-leb, lt-leb, lt-ltb, le-ltb, ltb-true, ne_eqb}
 use lib.Dec.{ltb, leb}
 use lib.ListN.{length, length-append}
 use Rattle.lists.specs.Over.{over, Placed, Put}
@@ -13,22 +14,24 @@ use Rattle.calls.specs.Calls.{after_call, start_on, words_started}
 use Rattle.listing.specs.Lines.{bench_line, end_line, refused_line}
 use Rattle.listing.proofs.DigitLaws.{decimal_le}
 use Rattle.listing.proofs.LineLaws.{end_length, refused_length, bench_length}
-use Rattle.job_format.specs.declared.check.Checked.{Checked}
+use Rattle.numbers.specs.Refusals.{refusal_number}
+use Rattle.job_format.specs.declared.check.JobFault.{JobFault}
 use Rattle.job_format.specs.declared.calls.JobCall.{JobCall}
 use Rattle.job_format.specs.Bytes.{next_at}
-use Rattle.job_format.specs.Check.{check_job}
-use Rattle.job_format.specs.Places.{header_bytes}
+use Rattle.job_format.specs.Check.{job_accepted, job_refused, check_job}
 use Rattle.job_format.specs.Job.{tile_count_of, line_address_of, memory_words_of, call_numbers_at, job_call_at, call_numbers_of}
+use Rattle.job_format.proofs.CheckLaws.{refused_lem}
 use Rattle.job_format.proofs.CallLaws.{call_in_lem, next_in}
 use Rattle.job_rules.specs.Calls.{bench_call}
 use Rattle.job_rules.specs.Buffers.{AllPlaced}
 use Rattle.job_rules.specs.Listing.{call_lines}
 use Rattle.job_rules.proofs.Room.{answer_le, room}
+use Rattle.job_rules.specs.declared.states.Rest.{Rest}
 use Rattle.job_rules.specs.declared.states.Run.{Run}
-use Rattle.job_rules.specs.RunStates.{Left, ended, run_of, PutsPiece}
+use Rattle.job_rules.specs.RunStates.{Left, ended, begun_rest, with_fewer_calls, rest_to_resume, rest_of, run_of, PutsPiece}
 use Rattle.jobs.proofs.LineLaws.{placed_at}
 use Rattle.job_rules.specs.Room.{most_call_bytes}
-use Rattle.job_rules.specs.Pieces.{preceded, paused, bytes_of_call, words_after_call, piece_from, accepted_piece, first_piece, next_piece, call_left}
+use Rattle.job_rules.specs.Pieces.{preceded, paused, bytes_of_call, words_after_call, piece_from, piece_in, accepted_piece, first_piece, next_piece, call_left}
 
 -- ---- lengths
 
@@ -49,7 +52,7 @@ call_le job line n at l = answer_le line (n + 1) _ _
 
 pub call_put : (job : List ℕ) (line n at p k : ℕ) (l l' b b' : List ℕ) (c : JobCall) (a : Run) → at < length job → p + most_call_bytes ≤ length b
     → c ≡ job_call_at job at → l' ≡ after_call (bench_call (call_numbers_of c)) l → AllPlaced b b' p k (call_lines line (n + 1) (bench_call (call_numbers_of c)) l)
-    → a ≡ record { put = k; going = true; at = c.next; calls = n + 1 } → PutsPiece p b (call_left job line n at l) a l' b'
+    → a ≡ record { put = k; rest = Some (record { at = c.next; calls = n + 1 }) } → PutsPiece p b (call_left job line n at l) a l' b'
 unfolding run_of call_lines
 call_put job line n at p k l l' b b' c a h f e w x r =
     let i : call_numbers_of c ≡ call_numbers_at job at = ap call_numbers_of e ∙ call_in_lem job at h in
@@ -98,61 +101,62 @@ module _ (job : List ℕ) (line limit : ℕ) where
   a_pause p n at l h = rw (lt-leb p limit h)
 
   -- where the loop stands: what it put, and that all of the piece is that and what is put from here on
-  pub record Rest (first : Run) (l₀ b₀ l b : List ℕ) (r : Run) : Type 0 where
+  pub record Goes (p₀ n₀ at₀ : ℕ) (l₀ b₀ l b : List ℕ) (p n at : ℕ) : Type 0 where
     pub done : List ℕ
-    pub goes : r.going ≡ true
-    pub fewer : r.calls < r.at
-    pub place : r.put ≡ first.put + length done
-    pub inside : r.put ≤ length b₀
-    pub buffer : b ≡ over b₀ first.put done
-    pub rest : from first.put first.calls first.at l₀ ≡ preceded done (from r.put r.calls r.at l)
+    pub fewer : n < at
+    pub place : p ≡ p₀ + length done
+    pub inside : p ≤ length b₀
+    pub buffer : b ≡ over b₀ p₀ done
+    pub rest : from p₀ n₀ at₀ l₀ ≡ preceded done (from p n at l)
 
-  pub rest_start : (first : Run) (l b : List ℕ) → first.going ≡ true → first.calls < first.at → first.put ≤ length b → Rest first l b l b first
+  pub goes_start : (p n at : ℕ) (l b : List ℕ) → n < at → p ≤ length b → Goes p n at l b l b p n at
   unfolding preceded
-  rest_start first l b g f i = record { done = []; goes = g; fewer = f; place = omega arith; inside = i; buffer = sym (over_nil b first.put); rest = refl }
+  goes_start p n at l b f i = record { done = []; fewer = f; place = omega arith; inside = i; buffer = sym (over_nil b p); rest = refl }
 
-  module _ (first : Run) (l₀ b₀ l b : List ℕ) (r : Run) (len : length b ≡ length b₀) (x : Rest first l₀ b₀ l b r) where
-    begins : first.put ≤ length b₀
+  module _ (p₀ n₀ at₀ : ℕ) (l₀ b₀ l b : List ℕ) (p n at : ℕ) (len : length b ≡ length b₀) (x : Goes p₀ n₀ at₀ l₀ b₀ l b p n at) where
+    begins : p₀ ≤ length b₀
     begins = omega (arith, x.place, x.inside)
 
-    two : (b' bs : List ℕ) → b' ≡ over b r.put bs → b' ≡ over b₀ first.put (x.done ++ bs)
-    two b' bs e = e ∙ ap (λ (z : List ℕ). over z r.put bs) x.buffer ∙ over_over b₀ first.put r.put x.done bs begins x.place
+    two : (b' bs : List ℕ) → b' ≡ over b p bs → b' ≡ over b₀ p₀ (x.done ++ bs)
+    two b' bs e = e ∙ ap (λ (z : List ℕ). over z p bs) x.buffer ∙ over_over b₀ p₀ p x.done bs begins x.place
 
-    pub rest_step : (l' b' : List ℕ) (a : Run) → r.put ≤ limit → r.at < length job → PutsPiece r.put b (call_left job line r.calls r.at l) a l' b' → Rest first l₀ b₀ l' b' a
+    pub goes_step : (l' b' : List ℕ) (k : ℕ) (c : JobCall) → p ≤ limit → at < length job → p + most_call_bytes ≤ length b
+        → c ≡ job_call_at job at → l' ≡ after_call (bench_call (call_numbers_of c)) l → AllPlaced b b' p k (call_lines line (n + 1) (bench_call (call_numbers_of c)) l)
+        → Goes p₀ n₀ at₀ l₀ b₀ l' b' k (n + 1) c.next
     unfolding run_of
-    rest_step l' b' a h k y =
-        let e : a ≡ run_of r.put (call_left job line r.calls r.at l) = y.says in
-        let bs : List ℕ = bytes_of_call job line r.calls r.at l in
-        rw (e, y.leaves) (record {
+    goes_step l' b' k c h a room f w v =
+        let y = call_put job line n at p k l l' b b' c (record { put = k; rest = Some (record { at = c.next; calls = n + 1 }) }) a room f w v refl in
+        let bs : List ℕ = bytes_of_call job line n at l in
+        let e : k ≡ p + length bs = ap (λ (z : Run). z.put) y.says in
+        let m : c.next ≡ next_at job at = ap (λ (z : JobCall). z.next) f ∙ next_in job at a in
+        rw (m, e, y.leaves) (record {
           done = x.done ++ bs;
-          goes = refl;
           fewer = omega (arith, x.fewer);
           place = omega (arith, x.place, length-append x.done bs);
-          inside = omega (arith, ap (λ (z : Run). z.put) e, y.inside);
+          inside = omega (arith, e, y.inside);
           buffer = two b' bs y.buffer;
-          rest = x.rest ∙ ap (preceded x.done) (a_call r.put r.calls r.at l h k) ∙ behind_behind x.done bs _;
+          rest = x.rest ∙ ap (preceded x.done) (a_call p n at l h a) ∙ behind_behind x.done bs _;
         })
 
-    pub rest_end : (b' : List ℕ) (a : Run) → r.put ≤ limit → length job ≤ r.at → PutsPiece r.put b (ended (end_line r.calls) []) a [] b'
-        → PutsPiece first.put b₀ (from first.put first.calls first.at l₀) a l b'
+    pub goes_end : (b' : List ℕ) (a : Run) → p ≤ limit → length job ≤ at → PutsPiece p b (ended (end_line n) []) a [] b' → PutsPiece p₀ b₀ (from p₀ n₀ at₀ l₀) a l b'
     unfolding run_of preceded
-    rest_end b' a h k y =
-        let e : from first.put first.calls first.at l₀ ≡ preceded x.done (ended (end_line r.calls) l) = x.rest ∙ ap (preceded x.done) (an_end r.put r.calls r.at l h k) in
+    goes_end b' a h k y =
+        let e : from p₀ n₀ at₀ l₀ ≡ preceded x.done (ended (end_line n) l) = x.rest ∙ ap (preceded x.done) (an_end p n at l h k) in
         rw e (record {
-          says = y.says ∙ ap (λ (z : ℕ). record { put = z; going = false; at = 0; calls = 0 }) (omega (arith, x.place, length-append x.done (end_line r.calls)));
+          says = y.says ∙ ap (λ (z : ℕ). record { put = z; rest = None }) (omega (arith, x.place, length-append x.done (end_line n)));
           leaves = refl;
-          buffer = two b' (end_line r.calls) y.buffer;
+          buffer = two b' (end_line n) y.buffer;
           inside = rw len at y.inside;
         })
 
-    pub rest_pause : limit < r.put → PutsPiece first.put b₀ (from first.put first.calls first.at l₀) r l b
+    pub goes_pause : limit < p → PutsPiece p₀ b₀ (from p₀ n₀ at₀ l₀) (record { put = p; rest = Some (record { at = at; calls = n }) }) l b
     unfolding run_of preceded
-    rest_pause h =
-        let e : from first.put first.calls first.at l₀ ≡ preceded x.done (paused r.calls r.at l) = x.rest ∙ ap (preceded x.done) (a_pause r.put r.calls r.at l h) in
+    goes_pause h =
+        let e : from p₀ n₀ at₀ l₀ ≡ preceded x.done (paused n at l) = x.rest ∙ ap (preceded x.done) (a_pause p n at l h) in
         rw e (record {
-          says = ap₂ {C = Run} (λ z t. record { put = z; going = t; at = r.at; calls = r.calls }) (omega (arith, x.place, length-append x.done [])) x.goes;
+          says = ap (λ (z : ℕ). record { put = z; rest = Some (record { at = at; calls = n }) }) (omega (arith, x.place, length-append x.done []));
           leaves = refl;
-          buffer = x.buffer ∙ ap (over b₀ first.put) (sym (append-nil x.done));
+          buffer = x.buffer ∙ ap (over b₀ p₀) (sym (append-nil x.done));
           inside = x.inside;
         })
 
@@ -168,25 +172,24 @@ behind_put : (b b₁ b₂ l : List ℕ) (p k : ℕ) (bs : List ℕ) (x : Left) (
 unfolding run_of preceded
 behind_put b b₁ b₂ l p k bs x a h e y z =
     record {
-      says = z.says ∙ ap (λ (n : ℕ). record { put = n; going = x.going; at = x.at; calls = x.calls }) (omega (arith, y.place, length-append bs x.bytes));
+      says = z.says ∙ ap (λ (n : ℕ). record { put = n; rest = rest_of x }) (omega (arith, y.place, length-append bs x.bytes));
       leaves = z.leaves;
       buffer = z.buffer ∙ ap (λ (n : List ℕ). over n k x.bytes) y.buffer ∙ over_over b p k bs x.bytes h y.place;
       inside = omega (arith, z.inside);
     }
 
-pub accepted_put : (job l l₁ l₂ b b₁ b₂ : List ℕ) (k tiles line limit : ℕ) (s a : Run) → most_call_bytes ≤ length b → length b₁ ≡ length b
-    → tiles ≡ tile_count_of job → line ≡ line_address_of job → limit ≡ length b - most_call_bytes → l₁ ≡ words_started l (tile_count_of job) (start_on l (tile_count_of job) (memory_words_of job))
-    → Placed b b₁ 0 k (bench_line tiles line) → s ≡ record { put = k; going = true; at = header_bytes; calls = 0 }
-    → PutsPiece s.put b₁ (piece_from (suc (length job)) job line limit s.put s.calls s.at l₁) a l₂ b₂ → PutsPiece 0 b (accepted_piece job (length b) l) a l₂ b₂
+pub accepted_put : (job l l₁ l₂ b b₁ b₂ : List ℕ) (k tiles line : ℕ) (s : Rest) (a : Run) → most_call_bytes ≤ length b → length b₁ ≡ length b
+    → tiles ≡ tile_count_of job → line ≡ line_address_of job → l₁ ≡ words_started l (tile_count_of job) (start_on l (tile_count_of job) (memory_words_of job))
+    → Placed b b₁ 0 k (bench_line tiles line) → s ≡ begun_rest → PutsPiece k b₁ (piece_in job (length b₁) k s.calls s.at l₁) a l₂ b₂ → PutsPiece 0 b (accepted_piece job (length b) l) a l₂ b₂
 unfolding accepted_piece
-accepted_put job l l₁ l₂ b b₁ b₂ k tiles line limit s a h e t i m w x q z =
+accepted_put job l l₁ l₂ b b₁ b₂ k tiles line s a h e t i w x q z =
     let y : Put b b₁ 0 k (bench_line (tile_count_of job) (line_address_of job)) = rw (t, i) at (bench_put b b₁ k tiles line h x) in
     let j : k ≡ length (bench_line (tile_count_of job) (line_address_of job)) = omega (arith, y.place) in
-    behind_put b b₁ b₂ l₂ 0 k (bench_line (tile_count_of job) (line_address_of job)) _ a (omega arith) e y (rw (← j) (rw (q, i, m, w) at z))
+    behind_put b b₁ b₂ l₂ 0 k (bench_line (tile_count_of job) (line_address_of job)) _ a (omega arith) e y (rw (← j) (rw (q, w, e) at z))
 
 -- ---- the first piece
 
-pub nothing_put : (l b : List ℕ) (a : Run) → a ≡ record { put = 0; going = false; at = 0; calls = 0 } → PutsPiece 0 b (ended [] l) a l b
+pub nothing_put : (l b : List ℕ) (a : Run) → a ≡ record { put = 0; rest = None } → PutsPiece 0 b (ended [] l) a l b
 unfolding run_of
 nothing_put l b a e = record { says = e; leaves = refl; buffer = sym (over_nil b 0); inside = omega (arith, ap (λ (z : Run). z.put) e) }
 
@@ -195,34 +198,43 @@ unfolding run_of
 with_words_lem p b v a l b' x = record { says = x.says; leaves = refl; buffer = x.buffer; inside = x.inside }
 
 module _ (job l b : List ℕ) (a : Run) where
-  pub first_short : length b < most_call_bytes → a ≡ record { put = 0; going = false; at = 0; calls = 0 } → PutsPiece 0 b (first_piece job (length b) l) a l b
+  pub first_short : length b < most_call_bytes → a ≡ record { put = 0; rest = None } → PutsPiece 0 b (first_piece job (length b) l) a l b
   unfolding first_piece
   first_short h e = rw (lt-ltb (length b) most_call_bytes h) (nothing_put l b a e)
 
-  pub first_accepted : (l' b' : List ℕ) (c : Checked) → most_call_bytes ≤ length b → c ≡ check_job job → c.refusal ≡ 0 → PutsPiece 0 b (accepted_piece job (length b) l) a l' b' → PutsPiece 0 b (first_piece job (length b) l) a l' b'
+  pub first_accepted : (l' b' : List ℕ) → most_call_bytes ≤ length b → job_accepted ≡ check_job job → PutsPiece 0 b (accepted_piece job (length b) l) a l' b' → PutsPiece 0 b (first_piece job (length b) l) a l' b'
   unfolding first_piece
-  first_accepted l' b' c h e z x = rw (le-ltb (length b) most_call_bytes h, ← e, eq-eqb c.refusal 0 z) x
+  first_accepted l' b' h e x = rw (le-ltb (length b) most_call_bytes h, ← e) x
 
-  pub first_refused : (b' : List ℕ) (c : Checked) → most_call_bytes ≤ length b → c ≡ check_job job → (c.refusal ≡ 0 → ⊥) → PutsPiece 0 b (ended (refused_line c.refusal c.offset) []) a [] b' → PutsPiece 0 b (first_piece job (length b) l) a l b'
+  pub first_refused : (b' : List ℕ) (f : JobFault) → most_call_bytes ≤ length b → job_refused (refusal_number f.refusal) f.offset ≡ check_job job
+      → PutsPiece 0 b (ended (refused_line (refusal_number f.refusal) f.offset) []) a [] b' → PutsPiece 0 b (first_piece job (length b) l) a l b'
   unfolding first_piece
-  first_refused b' c h e z x = rw (le-ltb (length b) most_call_bytes h, ← e, ne_eqb c.refusal 0 z) (with_words_lem 0 b (refused_line c.refusal c.offset) a l b' x)
+  first_refused b' f h e x =
+      rw (le-ltb (length b) most_call_bytes h, ← e, ne_eqb (refusal_number f.refusal) 0 (refused_lem f.refusal)) (with_words_lem 0 b (refused_line (refusal_number f.refusal) f.offset) a l b' x)
 
   -- ---- the next ones
 
-  pub next_short : (r : Run) → length b < most_call_bytes → a ≡ record { put = 0; going = false; at = 0; calls = 0 } → PutsPiece 0 b (next_piece job (length b) r l) a l b
+  pub next_short : (r : Run) → length b < most_call_bytes → a ≡ record { put = 0; rest = None } → PutsPiece 0 b (next_piece job (length b) r l) a l b
   unfolding next_piece
   next_short r h e = rw (lt-ltb (length b) most_call_bytes h) (nothing_put l b a e)
 
-  pub next_ended : (r : Run) → most_call_bytes ≤ length b → r.going ≡ false → a ≡ record { put = 0; going = false; at = 0; calls = 0 } → PutsPiece 0 b (next_piece job (length b) r l) a l b
+  pub next_ended : (r : Run) → most_call_bytes ≤ length b → rest_to_resume r ≡ None → a ≡ record { put = 0; rest = None } → PutsPiece 0 b (next_piece job (length b) r l) a l b
   unfolding next_piece
   next_ended r h g e = rw (le-ltb (length b) most_call_bytes h, g) (nothing_put l b a e)
 
-  pub next_none : (r : Run) → most_call_bytes ≤ length b → r.going ≡ true → r.at ≤ r.calls → a ≡ record { put = 0; going = false; at = 0; calls = 0 } → PutsPiece 0 b (next_piece job (length b) r l) a l b
+  pub next_turns : (r : Run) (s : Rest) (l' b' : List ℕ) → most_call_bytes ≤ length b → rest_to_resume r ≡ Some s → PutsPiece 0 b (piece_in job (length b) 0 s.calls s.at l) a l' b' → PutsPiece 0 b (next_piece job (length b) r l) a l' b'
   unfolding next_piece
-  next_none r h g k e = rw (le-ltb (length b) most_call_bytes h, g, le-ltb r.calls r.at k) (nothing_put l b a e)
+  next_turns r s l' b' h g z = rw (le-ltb (length b) most_call_bytes h, g) z
 
-  pub next_turns : (r s : Run) (line limit : ℕ) (l' b' : List ℕ) → most_call_bytes ≤ length b → r.going ≡ true → r.calls < r.at → line ≡ line_address_of job → limit ≡ length b - most_call_bytes
-      → s ≡ record { put = 0; going = true; at = r.at; calls = r.calls } → PutsPiece s.put b (piece_from (suc (length job)) job line limit s.put s.calls s.at l) a l' b'
-      → PutsPiece 0 b (next_piece job (length b) r l) a l' b'
-  unfolding next_piece
-  next_turns r s line limit l' b' h g k i m q z = rw (le-ltb (length b) most_call_bytes h, g, lt-ltb r.calls r.at k) (rw (q, i, m) at z)
+-- what a run goes on with has fewer calls than bytes before its place
+pub resumed_fewer : (r : Run) (s : Rest) → rest_to_resume r ≡ Some s → s.calls < s.at
+unfolding rest_to_resume
+resumed_fewer r s = go r.rest
+  where
+    go : (o : Option Rest) → with_fewer_calls o ≡ Some s → s.calls < s.at
+    go None e = cc
+    go (Some q) e = here (ltb q.calls q.at) refl e
+      where
+        here : (t : Bool) → ltb q.calls q.at ≡ t → cond {A = Option Rest} t (Some q) None ≡ Some s → s.calls < s.at
+        here true u f = let p : q ≡ s = cc in rw (← p) (ltb-true _ _ u)
+        here false u f = cc

@@ -3,7 +3,8 @@ ghost use Rattle.std.specs.Prelude.{◌≡◌};
 ghost use Rattle.job_rules.specs.Buffers.{AllPlaced};
 ghost use Rattle.job_rules.specs.AnswerLines.{answer_lines};
 
-use calls::Answer;
+use crate::message_lines::put_messages;
+use protocol::Answer;
 
 // The lines of a call: its number and answer, and the messages that it sent, out of the words after it.
 pub fn answer_lines(
@@ -24,5 +25,5 @@ pub fn answer_lines(
         answer.kind,
         answer.value,
     );
-    crate::message_lines::put_messages(buffer, place, words, line, answer.sent, answer.tiles)
+    put_messages(buffer, place, words, line, answer)
 }

@@ -2,12 +2,12 @@
 ghost use Rattle.std.specs.Prelude.{◌≡◌};
 ghost use Rattle.lists.specs.Over.{Placed};
 ghost use Rattle.messages.specs.Queues.{sent_queues};
-ghost use Rattle.messages.specs.Rows.{sent_message};
 ghost use Rattle.job_rules.specs.Buffers.{AllPlaced};
 ghost use Rattle.job_rules.specs.AnswerLines.{sent_line, sent_lines};
 
 use flits::MOST_FLITS;
 use messages::Sent;
+use protocol::Answer;
 
 fn put_sent(buffer: &mut [u8], at: usize, line: u64, message: Sent) -> usize
     ensures { Placed buffer.old buffer.new at result (sent_line line message) }
@@ -21,43 +21,17 @@ fn put_sent(buffer: &mut [u8], at: usize, line: u64, message: Sent) -> usize
         message.tile,
         message.row,
     );
-    let count = written.flits;
-    listing::message_line(buffer, at, &flits[..count])
+    listing::message_line(buffer, at, &flits[..written.unwrap_or(0)])
 }
 
-// The line of the message of this index of a call, out of the words after it.
-fn put_one(
-    buffer: &mut [u8],
-    at: usize,
-    words: &[u64],
-    line: u64,
-    sent: u64,
-    tiles: u64,
-    index: u64,
-) -> usize
-    ensures { Placed buffer.old buffer.new at result (sent_line line (sent_message words.now sent tiles index)) }
+// The lines of all messages of a call with this answer, out of the words after it, in the order of sending.
+pub fn put_messages(buffer: &mut [u8], at: usize, words: &[u64], line: u64, answer: Answer) -> usize
+    ensures { AllPlaced buffer.old buffer.new at result (sent_lines line words.now (sent_queues answer.sent answer.tiles)) }
 {
-    let message = messages::message(words, sent, tiles, index);
-    put_sent(buffer, at, line, message)
-}
-
-// The lines of all messages of a call, in the order of sending.
-pub fn put_messages(
-    buffer: &mut [u8],
-    at: usize,
-    words: &[u64],
-    line: u64,
-    sent: u64,
-    tiles: u64,
-) -> usize
-    ensures { AllPlaced buffer.old buffer.new at result (sent_lines line words.now (sent_queues sent tiles)) }
-{
-    let count = messages::count(sent, tiles);
     let mut place = at;
-    let mut index: u64 = 0;
-    while index < count {
-        place = put_one(buffer, place, words, line, sent, tiles, index);
-        index = index + 1;
+    for index in 0..messages::count(answer.sent, answer.tiles) {
+        let message = messages::message(words, answer.sent, answer.tiles, index);
+        place = put_sent(buffer, place, line, message);
     }
     place
 }

@@ -7,7 +7,7 @@ use native.Mathlib.Numerals.{add-one}
 use lib.ListN.{length, get_or, drop, length-append, drop_of_length-le}
 use lib.Seq.{drop-cons}
 use Rattle.lists.specs.Over.{over, Put, Placed}
-use Rattle.lists.proofs.OverLaws.{over_nil, over_over, does_not_fit, four_put}
+use Rattle.lists.proofs.OverLaws.{over_nil, over_over, does_not_fit, join, four_put}
 use Rattle.listing.specs.Digits.{ascii, hex12, decimal, number_then}
 use Rattle.listing.specs.Lines.{bench_line, call_line, flit_text, flits_text, message_line, end_line, refused_line}
 use Rattle.listing.proofs.DigitLaws.{length_digits, then_length}
@@ -30,13 +30,11 @@ unfolding call_line
 call_length number refusal kind value a b c d p q r s =
     sym (simp length-append (omega (arith, then_length number 32, then_length refusal 32, then_length kind 32, then_length value 10)))
 
-pub call_put : (l m n : List ℕ) (i j k number refusal kind value : ℕ) → i ≤ length l → Put l m i j (number_then number 32 ++ number_then refusal 32) →
-    Put m n j k (number_then kind 32 ++ number_then value 10) → Put l n i k (call_line number refusal kind value)
+pub call_put : (l l₁ l₂ l₃ m : List ℕ) (i p₁ p₂ p₃ k number refusal kind value : ℕ) → i ≤ length l → p₁ ≤ length l₁ → p₂ ≤ length l₂ → Put l l₁ i p₁ (number_then number 32) →
+    Put l₁ l₂ p₁ p₂ (number_then refusal 32) → Put l₂ l₃ p₂ p₃ (number_then kind 32) → Put l₃ m p₃ k (number_then value 10) → Put l m i k (call_line number refusal kind value)
 unfolding call_line
-call_put l m n i j k number refusal kind value h p q = four_put l m n i j k (number_then number 32) (number_then refusal 32) (number_then kind 32) (number_then value 10) h p q
-
-pub pair_length : (a b e : ℕ) → length (number_then a 32 ++ number_then b e) ≡ length (decimal a) + length (decimal b) + 2
-pair_length a b e = length-append (number_then a 32) (number_then b e) ∙ omega (arith, then_length a 32, then_length b e)
+call_put l l₁ l₂ l₃ m i p₁ p₂ p₃ k number refusal kind value h h₁ h₂ p q r s =
+    join l l₁ m i p₁ k _ _ h p (join l₁ l₂ m p₁ p₂ k _ _ h₁ q (join l₂ l₃ m p₂ p₃ k _ _ h₂ r s))
 
 -- ---- a message's line
 pub length_flits : (fs : List ℕ) → length (flits_text fs) ≡ 17 * length fs

@@ -1,7 +1,7 @@
 // Numbers in a listing, in decimal and hexadecimal.
-ghost use Rattle.std.specs.Prelude.{◌≡◌, ◌+◌, ◌^◌, ◌≤◌, ◌<◌, ◌++◌, length};
+ghost use Rattle.std.specs.Prelude.{◌≡◌, ◌+◌, ◌≤◌, ◌<◌, ◌++◌, length};
 ghost use Rattle.lists.specs.Over.{Put, Placed};
-ghost use Rattle.listing.specs.Digits.{decimal_base, hexadecimal_base, most_decimal_digits, space, digit_byte, digits, hex16, hex12, decimal_from, decimal, number_then};
+ghost use Rattle.listing.specs.Digits.{decimal_base, hexadecimal_base, most_decimal_digits, digit_byte, digits, hex16, hex12, decimal, number_then};
 
 const DECIMAL: u64 = 10;
 
@@ -11,174 +11,107 @@ pub const FLIT_DIGITS: usize = 16;
 
 pub const ADDRESS_DIGITS: usize = 12;
 
-const TEN_TO_2: u64 = 100;
-
-const TEN_TO_3: u64 = 1000;
-
-const TEN_TO_4: u64 = 10_000;
-
-const TEN_TO_8: u64 = 100_000_000;
-
-const TEN_TO_12: u64 = 1_000_000_000_000;
-
-const TEN_TO_16: u64 = 10_000_000_000_000_000;
+const HUNDRED: u64 = 100;
 
 // ---- digits, and how many there are
 
-// A hexadecimal digit: a look-up is twice as fast as a test.
+// A look-up is twice as fast as a test.
+const DIGITS: [u8; 16] = *b"0123456789ABCDEF";
+
+// A hexadecimal digit.
 fn digit(value: u64) -> u8
     requires { value < hexadecimal_base }
     ensures { result ≡ digit_byte value }
 {
-    match value {
-        0 => b'0',
-        1 => b'1',
-        2 => b'2',
-        3 => b'3',
-        4 => b'4',
-        5 => b'5',
-        6 => b'6',
-        7 => b'7',
-        8 => b'8',
-        9 => b'9',
-        10 => b'A',
-        11 => b'B',
-        12 => b'C',
-        13 => b'D',
-        14 => b'E',
-        _ => b'F',
-    }
-}
-
-// How many decimal digits a number of at most four has.
-fn short_digit_count(number: u64) -> usize
-    requires { number < decimal_base ^ 4 }
-    ensures { (result ≡ length (decimal_from 4 number)) × (result ≤ 4) }
-{
-    if number < TEN_TO_2 {
-        if number < DECIMAL { 1 } else { 2 }
-    } else {
-        if number < TEN_TO_3 { 3 } else { 4 }
-    }
-}
-
-// How many decimal digits a number has: by one division, not one for each digit.
-pub fn digit_count(number: u64) -> usize
-    ensures { (result ≡ length (decimal number)) × (result ≤ most_decimal_digits) }
-{
-    if number < TEN_TO_4 {
-        short_digit_count(number)
-    } else {
-        if number < TEN_TO_8 {
-            4 + short_digit_count(number / TEN_TO_4)
-        } else {
-            if number < TEN_TO_12 {
-                8 + short_digit_count(number / TEN_TO_8)
-            } else {
-                if number < TEN_TO_16 {
-                    12 + short_digit_count(number / TEN_TO_12)
-                } else {
-                    16 + short_digit_count(number / TEN_TO_16)
-                }
-            }
-        }
-    }
+    DIGITS[value as usize]
 }
 
 // ---- numbers put where they fit
 
 // The last hexadecimal digits of a number, from the last to the first.
-pub fn put_hex(buffer: &mut [u8], at: usize, count: usize, number: u64) -> usize
-    requires { at + count ≤ length buffer.old }
-    ensures { Put buffer.old buffer.new at result (digits hexadecimal_base count number) }
+pub fn put_hex<const COUNT: usize>(buffer: &mut [u8], at: usize, number: u64) -> usize
+    requires { at + COUNT ≤ length buffer.old }
+    ensures { Put buffer.old buffer.new at result (digits hexadecimal_base COUNT number) }
 {
     let mut rest = number;
-    let mut left = count;
-    while 0 < left {
-        left -= 1;
-        buffer[at + left] = digit(rest % HEXADECIMAL);
-        rest = rest / HEXADECIMAL;
+    for place in (0..COUNT).rev() {
+        buffer[at + place] = digit(rest % HEXADECIMAL);
+        rest /= HEXADECIMAL;
     }
-    at + count
+    at + COUNT
 }
 
-// The last decimal digits of a number, from the last to the first: two for each division.
+// The last decimal digits of a number, from the last to the first: two for each division, and the first of an odd count alone.
+// The count is no length of a buffer: it says how many are put.
 fn put_tens(buffer: &mut [u8], at: usize, count: usize, number: u64) -> usize
     requires { at + count ≤ length buffer.old }
     ensures { Put buffer.old buffer.new at result (digits decimal_base count number) }
 {
     let mut rest = number;
-    let mut left = count;
-    while 1 < left {
-        let pair = rest % TEN_TO_2;
-        left -= 1;
-        buffer[at + left] = b'0' + (pair % DECIMAL) as u8;
-        left -= 1;
-        buffer[at + left] = b'0' + (pair / DECIMAL) as u8;
-        rest = rest / TEN_TO_2;
+    let first = at + count % 2;
+    for pair in (0..count / 2).rev() {
+        let two = rest % HUNDRED;
+        buffer[first + 2 * pair + 1] = b'0' + (two % DECIMAL) as u8;
+        buffer[first + 2 * pair] = b'0' + (two / DECIMAL) as u8;
+        rest /= HUNDRED;
     }
-    if 0 < left {
-        left -= 1;
-        buffer[at + left] = b'0' + (rest % DECIMAL) as u8;
-        at + count
-    } else {
-        at + count
+    if at < first {
+        buffer[at] = b'0' + (rest % DECIMAL) as u8;
     }
+    at + count
 }
 
-// A number of known digit count. Most have one digit.
-pub fn put_number(buffer: &mut [u8], at: usize, number: u64, count: usize) -> usize
-    requires { (count ≡ length (decimal number)) × (at + count ≤ length buffer.old) }
-    ensures { Put buffer.old buffer.new at result (decimal number) }
-{
-    if number < DECIMAL {
-        buffer[at] = b'0' + number as u8;
+// ---- numbers in decimal
+
+// A number, and how many digits it has.
+#[derive(Clone, Copy)]
+pub struct Numeral {
+    pub number: u64,
+    pub count: usize,
+    ghost counted: { count ≡ length (decimal number) },
+    ghost short: { count ≤ most_decimal_digits },
+}
+
+impl Numeral {
+    pub fn of(number: u64) -> Numeral
+        ensures { result.number ≡ number }
+    {
+        // most have one digit
+        let count = match number {
+            0..DECIMAL => 1,
+            _ => number.ilog10() as usize + 1,
+        };
+        Numeral { number, count }
+    }
+
+    pub fn put(self, buffer: &mut [u8], at: usize) -> usize
+        requires { at + self.count ≤ length buffer.old }
+        ensures { Put buffer.old buffer.new at result (decimal self.number) }
+    {
+        if self.number >= DECIMAL {
+            return put_tens(buffer, at, self.count, self.number);
+        }
+        buffer[at] = b'0' + self.number as u8;
         at + 1
-    } else {
-        put_tens(buffer, at, count, number)
     }
-}
 
-// A number of known digit count, and the byte behind it.
-pub fn put_number_then(buffer: &mut [u8], at: usize, number: u64, count: usize, behind: u8) -> usize
-    requires { (count ≡ length (decimal number)) × (at + count + 1 ≤ length buffer.old) }
-    ensures { Put buffer.old buffer.new at result (number_then number behind) }
-{
-    let next = put_number(buffer, at, number, count);
-    lists::put_byte(buffer, next, behind)
-}
+    // The number, and the byte behind it.
+    pub fn put_then(self, buffer: &mut [u8], at: usize, behind: u8) -> usize
+        requires { at + self.count + 1 ≤ length buffer.old }
+        ensures { Put buffer.old buffer.new at result (number_then self.number behind) }
+    {
+        let next = self.put(buffer, at);
+        lists::put_byte(buffer, next, behind)
+    }
 
-// Two numbers with a space between them, and the byte behind them.
-pub fn put_pair(
-    buffer: &mut [u8],
-    at: usize,
-    first: u64,
-    first_count: usize,
-    second: u64,
-    second_count: usize,
-    behind: u8,
-) -> usize
-    requires { (first_count ≡ length (decimal first)) × ((second_count ≡ length (decimal second)) × (at + (first_count + second_count + 2) ≤ length buffer.old)) }
-    ensures { Put buffer.old buffer.new at result (number_then first space ++ number_then second behind) }
-{
-    let next = put_number_then(buffer, at, first, first_count, b' ');
-    put_number_then(buffer, next, second, second_count, behind)
-}
-
-// A text, a number of known digit count, and the byte behind it.
-pub fn put_labelled(
-    buffer: &mut [u8],
-    at: usize,
-    text: &[u8],
-    number: u64,
-    count: usize,
-    behind: u8,
-) -> usize
-    requires { (count ≡ length (decimal number)) × (at + (length text.now + (count + 1)) ≤ length buffer.old) }
-    ensures { Put buffer.old buffer.new at result (text.now ++ number_then number behind) }
-{
-    let next = lists::put_text(buffer, at, text);
-    put_number_then(buffer, next, number, count, behind)
+    // A text, the number, and the byte behind it.
+    pub fn put_labelled(self, buffer: &mut [u8], at: usize, text: &[u8], behind: u8) -> usize
+        requires { at + (length text.now + (self.count + 1)) ≤ length buffer.old }
+        ensures { Put buffer.old buffer.new at result (text.now ++ number_then self.number behind) }
+    {
+        let next = lists::put_text(buffer, at, text);
+        self.put_then(buffer, next, behind)
+    }
 }
 
 // ---- numbers anywhere
@@ -186,30 +119,31 @@ pub fn put_labelled(
 pub fn put_decimal(buffer: &mut [u8], at: usize, number: u64) -> usize
     ensures { Placed buffer.old buffer.new at result (decimal number) }
 {
-    let count = digit_count(number);
-    if lists::room(buffer.len(), at, count) {
-        put_number(buffer, at, number, count)
-    } else {
-        buffer.len() + 1
+    let numeral = Numeral::of(number);
+    if !lists::room(buffer.len(), at, numeral.count) {
+        return buffer.len() + 1;
     }
+    numeral.put(buffer, at)
 }
 
+fn put_hex_of<const COUNT: usize>(buffer: &mut [u8], at: usize, number: u64) -> usize
+    ensures { Placed buffer.old buffer.new at result (digits hexadecimal_base COUNT number) }
+{
+    if !lists::room(buffer.len(), at, COUNT) {
+        return buffer.len() + 1;
+    }
+    put_hex::<COUNT>(buffer, at, number)
+}
+
+// One for each count, by its name: docs/PROVED.md names both.
 pub fn put_hex16(buffer: &mut [u8], at: usize, number: u64) -> usize
     ensures { Placed buffer.old buffer.new at result (hex16 number) }
 {
-    if lists::room(buffer.len(), at, FLIT_DIGITS) {
-        put_hex(buffer, at, FLIT_DIGITS, number)
-    } else {
-        buffer.len() + 1
-    }
+    put_hex_of::<FLIT_DIGITS>(buffer, at, number)
 }
 
 pub fn put_hex12(buffer: &mut [u8], at: usize, number: u64) -> usize
     ensures { Placed buffer.old buffer.new at result (hex12 number) }
 {
-    if lists::room(buffer.len(), at, ADDRESS_DIGITS) {
-        put_hex(buffer, at, ADDRESS_DIGITS, number)
-    } else {
-        buffer.len() + 1
-    }
+    put_hex_of::<ADDRESS_DIGITS>(buffer, at, number)
 }

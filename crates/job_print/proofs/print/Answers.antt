@@ -1,28 +1,17 @@
-use Rattle.std.proofs.Common.{◌∙◌}
+use Rattle.std.proofs.Common.{sym, ◌∙◌}
 use Rattle.job_rules.proofs.Pieces.{next_less, stands_first, stands_more, stands_last}
 use Rattle.job_print.proofs.print.Goals as goal
 
 pub loop-run-init : goal.loop-run-init
-loop-run-init g c = (c.first_piece-run.auto.buffer, stands_first _ _ _ _ _ c.first_piece-run.ensures.says c.first_piece-run.ensures.leaves)
+loop-run-init g c = stands_first _ _ _ _ _ c.first_piece-run.ensures.says c.first_piece-run.ensures.leaves
 
--- a piece less is left, and the loop stands behind it, whether or not the piece could be written
-pub loop-run-smaller-then-is_ok : goal.loop-run-smaller-then-is_ok
-loop-run-smaller-then-is_ok g c = next_less _ _ _ _ _ c.loop-run-test.true c.next_piece-run.ensures.says
-
-pub loop-run-preserved-then-is_ok : goal.loop-run-preserved-then-is_ok
-loop-run-preserved-then-is_ok g c = (
-  c.next_piece-run.auto.buffer ∙ c.loop-run.invariant.0,
-  stands_more _ _ _ _ _ _ _ _ c.loop-run.invariant.0 c.loop-run.invariant.1 c.loop-run-test.true c.next_piece-run.ensures.says c.next_piece-run.ensures.leaves,
-)
-
+-- a piece less is left, and the loop stands behind it
 pub loop-run-smaller : goal.loop-run-smaller
-loop-run-smaller g c = next_less _ _ _ _ _ c.loop-run-test.true c.next_piece-run.ensures.says
+loop-run-smaller g c = next_less _ _ _ _ _ (sym c.is_some.ensures ∙ c.loop-run-test.true) c.next_piece-run.ensures.says
 
 pub loop-run-preserved : goal.loop-run-preserved
-loop-run-preserved g c = (
-  c.next_piece-run.auto.buffer ∙ c.loop-run.invariant.0,
-  stands_more _ _ _ _ _ _ _ _ c.loop-run.invariant.0 c.loop-run.invariant.1 c.loop-run-test.true c.next_piece-run.ensures.says c.next_piece-run.ensures.leaves,
-)
+loop-run-preserved g c =
+    stands_more _ _ _ _ _ _ _ _ (c.loop-run.auto.buffer ∙ c.first_piece-run.auto.buffer) c.loop-run.invariant (sym c.is_some.ensures ∙ c.loop-run-test.true) c.next_piece-run.ensures.says c.next_piece-run.ensures.leaves
 
 pub returns : goal.returns
-returns g c = stands_last _ _ _ _ _ c.loop-run.invariant.1 c.loop-run-test.false
+returns g c = stands_last _ _ _ _ _ c.loop-run.invariant (sym c.is_some.ensures ∙ c.loop-run-test.false)

@@ -5,6 +5,6 @@ pub returns : goal.returns
 unfolding call_lines
 returns c =
     record {
-      after = c.run_call-answer.ensures.after;
-      lines = rw (← c.run_call-answer.ensures.answer, ← c.run_call-answer.ensures.after) c.answer_lines.ensures;
+      after = c.run_call.ensures.after;
+      lines = rw (← c.run_call.ensures.answer, ← c.told-answer.ensures, ← c.run_call.ensures.after) c.answer_lines.ensures;
     }

@@ -5,8 +5,8 @@ use Rattle.jobs.proofs.run_call.Goals as goal
 
 pub returns-then-is_tile_call : goal.returns-then-is_tile_call
 unfolding call_numbers_of
-returns-then-is_tile_call c = simp (call_from_lem, sym c.is_tile_call.ensures ∙ c.if-is_tile_call.true) (rw c.tile_call-at.ensures at c.at_tile.ensures)
+returns-then-is_tile_call c = simp (call_from_lem, sym c.is_tile_call.ensures ∙ c.if-is_tile_call.true) c.at_tile.ensures
 
 pub returns-else-is_tile_call : goal.returns-else-is_tile_call
 unfolding call_numbers_of
-returns-else-is_tile_call c = simp (call_from_lem, sym c.is_tile_call.ensures ∙ c.if-is_tile_call.false) (rw c.home_call-at.ensures at c.at_home.ensures)
+returns-else-is_tile_call c = simp (call_from_lem, sym c.is_tile_call.ensures ∙ c.if-is_tile_call.false) c.at_home.ensures

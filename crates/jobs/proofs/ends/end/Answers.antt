@@ -2,5 +2,4 @@ use Rattle.jobs.proofs.LineLaws.{line_put}
 use Rattle.jobs.proofs.ends.end.Goals as goal
 
 pub returns : goal.returns
-returns c =
-    line_put _ _ _ _ _ _ c.requires c.end_line-place.ensures c.run_state.ensures
+returns c = line_put _ _ _ _ _ _ c.requires c.end_line.ensures c.end.ensures

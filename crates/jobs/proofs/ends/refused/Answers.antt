@@ -3,5 +3,4 @@ use Rattle.jobs.proofs.LineLaws.{line_put}
 use Rattle.jobs.proofs.ends.refused.Goals as goal
 
 pub returns : goal.returns
-returns c =
-    line_put _ _ _ _ _ _ (omega (arith, c.requires)) c.refused_line-place.ensures c.run_state.ensures
+returns c = line_put _ _ _ _ _ _ (omega arith) (rw c.from.ensures at c.refused_line.ensures) c.end.ensures

@@ -1,12 +1,8 @@
-use Prim.Native.Nat.{◌≤◌}
+use Prim.Native.Nat.{◌*◌, ◌+◌, ◌%◌}
 use mathlib.Core.Path.{◌≡◌}
-use lib.ListN.{length}
 use Rattle.lists.specs.Over.{over}
 use Rattle.listing.specs.Digits.{digits}
 use Rattle.listing.proofs.digits.put_tens.Given as goal
 
-abbrev pub invariant-loop-left : goal.invariant-loop-left
-invariant-loop-left l = (l.left ≤ l.count) × (length l.buffer ≡ length l.initial.buffer) × (over l.buffer l.at (digits 10 l.left l.rest) ≡ over l.initial.buffer l.at (digits 10 l.count l.number))
-
-abbrev pub decreases-loop-left : goal.decreases-loop-left
-decreases-loop-left l = l.left
+abbrev pub invariant-loop-pair : goal.invariant-loop-pair
+invariant-loop-pair l = over l.buffer l.at (digits 10 (l.count % 2 + 2 * l.pair) l.rest) ≡ over l.initial.buffer l.at (digits 10 l.count l.number)

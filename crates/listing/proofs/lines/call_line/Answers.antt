@@ -1,21 +1,12 @@
-use lib.ListN.{length}
-use Prim.Native.Nat.{◌+◌}
 use native.Mathlib.Omega.{arith}
-use Rattle.lists.proofs.OverLaws.{with_room, without_room, has_room_lem}
-use Rattle.listing.proofs.LineLaws.{call_length, call_put, pair_length}
+use Rattle.lists.proofs.OverLaws.{without_room}
+use Rattle.listing.proofs.DigitLaws.{then_length}
+use Rattle.listing.proofs.LineLaws.{call_length, call_put}
+use Rattle.listing.proofs.PutLaws.{line_fits}
 use Rattle.listing.proofs.lines.call_line.Goals as goal
 
-pub put_pair-p-requires : goal.put_pair-p-requires
-put_pair-p-requires c = (c.digit_count-a.ensures.0, (c.digit_count-b.ensures.0, omega (arith, has_room_lem (length c.args.buffer.now) c.args.at (c.digit_count-a.result + c.digit_count-b.result + c.digit_count-c.result + c.digit_count-d.result + 4) c.room.ensures c.if-room.true)))
+pub returns-then-not-room : goal.returns-then-not-room
+returns-then-not-room c = rw (← c.of-number.ensures, ← c.of-refusal.ensures, ← c.of-kind.ensures, ← c.of-value.ensures) (without_room _ _ _ _ (call_length _ _ _ _ _ _ _ _ c.of-number.result.counted c.of-refusal.result.counted c.of-kind.result.counted c.of-value.result.counted) c.room.ensures c.if-not-room.true)
 
-pub put_pair-requires : goal.put_pair-requires
-put_pair-requires c =
-    (c.digit_count-c.ensures.0, (c.digit_count-d.ensures.0, omega (arith, has_room_lem (length c.args.buffer.now) c.args.at (c.digit_count-a.result + c.digit_count-b.result + c.digit_count-c.result + c.digit_count-d.result + 4) c.room.ensures c.if-room.true, c.digit_count-a.ensures.0, c.digit_count-b.ensures.0, pair_length c.args.number c.args.refusal 32)))
-
-pub returns-then-room : goal.returns-then-room
-returns-then-room c =
-    with_room _ _ _ _ _ _ (call_length _ _ _ _ _ _ _ _ c.digit_count-a.ensures.0 c.digit_count-b.ensures.0 c.digit_count-c.ensures.0 c.digit_count-d.ensures.0) c.room.ensures c.if-room.true
-    (call_put _ _ _ _ _ _ _ _ _ _ (omega (arith, has_room_lem (length c.args.buffer.now) c.args.at (c.digit_count-a.result + c.digit_count-b.result + c.digit_count-c.result + c.digit_count-d.result + 4) c.room.ensures c.if-room.true)) c.put_pair-p.ensures c.put_pair.ensures)
-
-pub returns-else-room : goal.returns-else-room
-returns-else-room c = without_room _ _ _ _ (call_length _ _ _ _ _ _ _ _ c.digit_count-a.ensures.0 c.digit_count-b.ensures.0 c.digit_count-c.ensures.0 c.digit_count-d.ensures.0) c.room.ensures c.if-room.false
+pub returns : goal.returns
+returns c = rw (← c.of-number.ensures, ← c.of-refusal.ensures, ← c.of-kind.ensures, ← c.of-value.ensures) (line_fits _ _ _ _ _ _ (call_length _ _ _ _ _ _ _ _ c.of-number.result.counted c.of-refusal.result.counted c.of-kind.result.counted c.of-value.result.counted) c.room.ensures c.if-not-room.false (λ h. call_put _ _ _ _ _ _ _ _ _ _ _ _ _ _ (omega arith) (omega (arith, then_length)) (omega (arith, then_length)) c.put_then-next.ensures c.put_then-next-2.ensures c.put_then-next-3.ensures c.put_then.ensures))

@@ -1,18 +1,12 @@
-use lib.ListN.{length}
-use Prim.Native.Nat.{◌+◌}
-use native.Mathlib.Omega.{arith}
-use Rattle.lists.proofs.OverLaws.{with_room, without_room, has_room_lem}
+use Rattle.lists.proofs.OverLaws.{without_room}
 use Rattle.listing.proofs.LineLaws.{end_length}
 use Rattle.listing.specs.Lines.{end_line}
+use Rattle.listing.proofs.PutLaws.{line_fits}
 use Rattle.listing.proofs.lines.end_line.Goals as goal
 
-pub put_labelled-requires : goal.put_labelled-requires
-put_labelled-requires c =
-    (c.digit_count-count.ensures.0, omega (arith, has_room_lem (length c.args.buffer.now) c.args.at (c.digit_count-count.result + 5) c.room.ensures c.if-room.true))
+pub returns-then-not-room : goal.returns-then-not-room
+returns-then-not-room c = rw (← c.of-calls.ensures) (without_room _ _ _ _ (end_length _ _ c.of-calls.result.counted) c.room.ensures c.if-not-room.true)
 
-pub returns-then-room : goal.returns-then-room
+pub returns : goal.returns
 unfolding end_line
-returns-then-room c = with_room _ _ _ _ _ _ (end_length _ _ c.digit_count-count.ensures.0) c.room.ensures c.if-room.true c.put_labelled.ensures
-
-pub returns-else-room : goal.returns-else-room
-returns-else-room c = without_room _ _ _ _ (end_length _ _ c.digit_count-count.ensures.0) c.room.ensures c.if-room.false
+returns c = rw (← c.of-calls.ensures) (line_fits _ _ _ _ _ _ (end_length _ _ c.of-calls.result.counted) c.room.ensures c.if-not-room.false (λ h. c.put_labelled.ensures))

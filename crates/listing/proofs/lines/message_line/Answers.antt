@@ -1,18 +1,15 @@
-use lib.ListN.{length}
-use Prim.Native.Nat.{◌+◌, ◌*◌}
-use native.Mathlib.Omega.{arith}
-use Rattle.lists.proofs.OverLaws.{with_room, without_room, has_room_lem}
+use Rattle.lists.proofs.OverLaws.{without_room}
 use Rattle.listing.proofs.LineLaws.{message_length, too_many}
+use Rattle.listing.proofs.PutLaws.{line_fits}
 use Rattle.listing.proofs.lines.message_line.Goals as goal
+use Rattle.listing.proofs.lines.message_line.Goals.{then-flits-buffer-via-then-flits-buffer, then-flits-buffer-via-else-flits-buffer+then-not-room}
 
-pub put_message-requires : goal.put_message-requires
-put_message-requires c = omega (arith, has_room_lem (length c.args.buffer.now) c.args.at (length c.args.flits.now * 17 + 2) c.room.ensures c.if-room.true)
+pub returns-then-flits-buffer : goal.returns-then-flits-buffer
+returns-then-flits-buffer c =
+    elim c.then-flits-buffer.branch [
+      | then-flits-buffer-via-then-flits-buffer w ↦ too_many _ _ _ w.if-flits-buffer.true
+      | then-flits-buffer-via-else-flits-buffer+then-not-room w ↦ without_room _ _ _ _ (message_length c.args.flits.now) w.room.ensures w.if-not-room.true
+    ]
 
-pub returns-then-room : goal.returns-then-room
-returns-then-room c = with_room _ _ _ _ _ _ (message_length c.args.flits.now) c.room.ensures c.if-room.true c.put_message.ensures
-
-pub returns-else-room : goal.returns-else-room
-returns-else-room c = without_room _ _ _ _ (message_length c.args.flits.now) c.room.ensures c.if-room.false
-
-pub returns-else-flits-buffer : goal.returns-else-flits-buffer
-returns-else-flits-buffer c = too_many _ _ _ c.if-flits-buffer.false
+pub returns : goal.returns
+returns c = line_fits _ _ _ _ _ _ (message_length c.args.flits.now) c.room.ensures c.if-not-room.false (λ h. c.put_message.ensures)

@@ -9,4 +9,4 @@ put_byte-requires c = omega (arith, c.requires, length_flits c.args.flits.now)
 
 pub returns : goal.returns
 unfolding message_line
-returns c = join _ _ _ _ _ _ _ _ (omega (arith, c.requires)) c.put_byte-p.ensures (join _ _ _ _ _ _ _ _ (omega (arith, c.requires, c.put_byte-p.ensures.place, c.put_byte-p.auto)) c.put_flits-q.ensures c.put_byte.ensures)
+returns c = join _ _ _ _ _ _ _ _ (omega arith) c.put_byte-next.ensures (join _ _ _ _ _ _ _ _ (omega (arith, c.put_byte-next.ensures.place)) c.put_flits-next.ensures c.put_byte.ensures)
