@@ -2,9 +2,9 @@
 use Rattle.std.specs.Prelude.{ℕ, Bool, cond, List, [], ◌∷◌}
 use Rattle.protocol.specs.declared.Answer.{Answer}
 use Rattle.flits.specs.Words.{Header}
-use Rattle.flits.specs.Reading.{Read}
-use Rattle.flits.specs.Writing.{Written}
-use Rattle.job_format.specs.declared.check.Checked.{Checked}
+use Rattle.flits.specs.Reading.{ReadAnswer}
+use Rattle.flits.specs.Writing.{WriteAnswer}
+use Rattle.job_format.specs.Check.{Checked}
 
 -- true is 1, false is 0
 abbrev pub truth : Bool → ℕ
@@ -22,11 +22,11 @@ field_words h =
     ∷ h.from.chip ∷ h.from.x ∷ h.from.y ∷ h.from.port ∷ []
 
 -- of a read: refusal number, flits used, where among them the data start, and the fields
-abbrev pub read_words : Read → List ℕ
+abbrev pub read_words : ReadAnswer → List ℕ
 read_words x = x.refusal ∷ x.used ∷ x.start ∷ field_words x.header
 
 -- of a write: refusal number, and how many flits were written
-abbrev pub written_words : Written → List ℕ
+abbrev pub written_words : WriteAnswer → List ℕ
 written_words x = x.refusal ∷ x.flits ∷ []
 
 -- of a job's check: refusal number, and the offset of the bad field

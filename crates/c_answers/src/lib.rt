@@ -7,6 +7,6 @@ mod jobs;
 mod reads;
 mod reports;
 
-pub use answers::{report_answer, report_written, truth};
-pub use jobs::{report_checked, report_made};
+pub use answers::{report_answer, report_written, truth, written_numbers};
+pub use jobs::{checked_numbers, report_checked, report_made};
 pub use reads::read_and_report;

@@ -1,24 +1,14 @@
 // Words put at the start of lent ones.
-ghost use Rattle.std.specs.Prelude.{◌≡◌, ◌≤◌, ◌∷◌, [], ◌++◌, length, drop};
+ghost use Rattle.std.specs.Prelude.{◌≡◌, ◌∷◌, []};
 ghost use Rattle.c_answers.specs.Reports.{reported};
 
-fn copy(out: &mut [u64], words: &[u64])
-    requires { length words.now ≤ length out.old }
-    ensures { out.new ≡ words.now ++ drop (length words.now) out.old }
-{
-    let mut i = 0;
-    while i < words.len() {
-        out[i] = words[i];
-        i += 1;
-    }
-}
-
 // Puts the words at the start of `out` where they all fit; else `out` stays as it is.
+#[tactic(auto, unfolding(crate::specs::Reports::reported))]
 pub fn report(out: &mut [u64], words: &[u64])
     ensures { out.new ≡ reported out.old words.now }
 {
     if words.len() <= out.len() {
-        copy(out, words);
+        out[..words.len()].copy_from_slice(words);
     }
 }
 

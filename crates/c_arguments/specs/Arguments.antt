@@ -3,7 +3,7 @@ use Rattle.std.specs.Prelude.{ℕ, cond, List, eqb, length, get_or}
 use Rattle.numbers.specs.Limits.{words_in_line}
 use Rattle.numbers.specs.Refusals.{malformed_refusal}
 use Rattle.flits.specs.Words.{Header}
-use Rattle.flits.specs.Writing.{Written, written_of, buffer_of}
+use Rattle.flits.specs.Writing.{WriteAnswer, written_of, buffer_of}
 use Rattle.protocol.specs.Parts.{Bench, Result, refused}
 use Rattle.calls.specs.Calls.{start_on}
 use Rattle.messages.specs.declared.Sent.{Sent}
@@ -92,10 +92,10 @@ fields_from l =
 
 -- ---- a message written from lent fields: other than 18 are refused 1, first of all
 
-abbrev pub write_refused : ℕ → Written
+abbrev pub write_refused : ℕ → WriteAnswer
 write_refused n = record { refusal = n; flits = 0 }
 
-unfoldable pub written_from : List ℕ → ℕ → ℕ → ℕ → Written
+unfoldable pub written_from : List ℕ → ℕ → ℕ → ℕ → WriteAnswer
 written_from fields count room at = cond (eqb (length fields) field_count) (written_of (fields_from fields) count room at) (write_refused malformed_refusal)
 
 unfoldable pub buffer_from : List ℕ → List ℕ → List ℕ → ℕ → List ℕ
@@ -103,7 +103,7 @@ buffer_from fields words b at = cond (eqb (length fields) field_count) (buffer_o
 
 -- ---- the flits of a message that was sent, of the line with this address, at a place of a buffer
 
-abbrev pub sent_written : ℕ → Sent → ℕ → ℕ → Written
+abbrev pub sent_written : ℕ → Sent → ℕ → ℕ → WriteAnswer
 sent_written line m room at = written_of (message_fields line m.queue m.tile m.row) (length (message_data m.row)) room at
 
 abbrev pub sent_buffer : ℕ → Sent → List ℕ → ℕ → List ℕ

@@ -1,6 +1,6 @@
-// All of it for programs in other languages, but for a job's calls (crate job_exports). Numbers, and lent words as pointer and length, go in;
-// each function returns the refusal number and reports the whole answer. include/duzhmarqi.h says the same for C. The definitions are those of
-// the crates just below: c_arguments for what is given, c_answers for what is reported.
+// All of it for programs in other languages, but for a job's calls (crate job_exports). Numbers, and lent words as pointer and length, go
+// in; each function returns the refusal number and reports the whole answer. include/duzhmarqi.h says the same for C. The definitions are
+// those of the crates just below: c_arguments for what is given, c_answers for what is reported.
 #![tactic(auto)]
 
 ghost use Rattle.std.specs.Prelude.{◌≡◌, length, drop};
@@ -19,7 +19,8 @@ ghost use Rattle.c_answers.specs.Words.{truth, answer_words, read_words, written
 use c_answers::report_answer;
 use calls::{HomeCall, TileCall};
 
-// ---- the calls on a bench: each reports refusal, kind, value, `sent`, `tiles` (docs/LAYOUT.md)
+// ---- the calls on a bench, a function for each, since C has one name for a function. Each reports refusal, kind, value, `sent`, `tiles`
+// (docs/LAYOUT.md)
 
 // A fresh bench of so many tiles, with the eight memory words.
 #[unsafe(no_mangle)]
@@ -29,7 +30,7 @@ pub extern "C" fn duzh_start(words: &mut [u64], count: u64, memory: &[u64], out:
     ensures report { out.new ≡ reported out.old (answer_words (answer_of (start_from words.old count memory.now))) }
 {
     let answer = c_arguments::start_from(words, count, memory);
-    report_answer(out, answer)
+    report_answer(out, calls::told(answer))
 }
 
 // Do the words begin with a bench? 1 if so, else 0.
@@ -46,7 +47,7 @@ fn run_tile(words: &mut [u64], call: TileCall, out: &mut [u64]) -> u64
     ensures report { out.new ≡ reported out.old (answer_words (answer_to (call_at_tile call) words.old)) }
 {
     let answer = bench::at_tile(words, call.tag, call.tile, call.word, call.value);
-    report_answer(out, answer)
+    report_answer(out, calls::told(answer))
 }
 
 #[unsafe(no_mangle)]
@@ -97,7 +98,7 @@ fn run_home(words: &mut [u64], call: HomeCall, out: &mut [u64]) -> u64
     ensures report { out.new ≡ reported out.old (answer_words (answer_to (call_at_home call) words.old)) }
 {
     let answer = bench::at_home(words, call.tag, call.tile);
-    report_answer(out, answer)
+    report_answer(out, calls::told(answer))
 }
 
 #[unsafe(no_mangle)]
@@ -155,8 +156,8 @@ pub extern "C" fn duzh_message_count(sent: u64, tiles: u64) -> u64
     messages::count(sent, tiles)
 }
 
-// The flits of the message of this index, from 0, written at a place of the buffer, of the line with this address. Reports the refusal number
-// and how many flits were written; where there is no such message it is refused 11.
+// The flits of the message of this index, from 0, written at a place of the buffer, of the line with this address. Reports the refusal
+// number and how many flits were written; where there is no such message it is refused 11.
 #[unsafe(no_mangle)]
 pub extern "C" fn duzh_message_flits(
     words: &[u64],
@@ -173,7 +174,8 @@ pub extern "C" fn duzh_message_flits(
     ensures report { out.new ≡ reported out.old (written_words (sent_written line (sent_message words.now sent tiles index) (length buffer.old) at)) }
 {
     let written = c_arguments::write_sent(words, sent, tiles, index, line, buffer, at);
-    c_answers::report_written(out, written)
+    let (refusal, flits) = c_answers::written_numbers(written);
+    c_answers::report_written(out, refusal, flits)
 }
 
 // ---- flits and jobs that a caller brings
@@ -202,7 +204,8 @@ pub extern "C" fn duzh_write(
     ensures report { out.new ≡ reported out.old (written_words (written_from fields.now (length words.now) (length buffer.old) at)) }
 {
     let written = c_arguments::write_from(buffer, at, fields, words);
-    c_answers::report_written(out, written)
+    let (refusal, flits) = c_answers::written_numbers(written);
+    c_answers::report_written(out, refusal, flits)
 }
 
 // Checks a whole job. Reports the refusal number and the offset of the bad field.
@@ -211,6 +214,6 @@ pub extern "C" fn duzh_check_job(job: &[u8], out: &mut [u64]) -> u64
     ensures refusal { result ≡ (check_job job.now).refusal }
     ensures report { out.new ≡ reported out.old (checked_words (check_job job.now)) }
 {
-    let checked = job_format::check_job(job);
-    c_answers::report_checked(out, checked)
+    let (refusal, offset) = c_answers::checked_numbers(job_format::check_job(job));
+    c_answers::report_checked(out, refusal, offset)
 }

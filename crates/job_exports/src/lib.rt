@@ -10,9 +10,9 @@ ghost use Rattle.job_rules.specs.Listing.{call_lines};
 ghost use Rattle.c_answers.specs.Reports.{reported};
 ghost use Rattle.job_exports.specs.Arguments.{call_in};
 
-// Makes the call that stands at a place of a job (HEADER_BYTES for the first) on the bench in the words, and writes its lines of the listing,
-// as call number `number`, from a place of the text on. Returns the call's refusal number. Reports the place behind the lines, which is past
-// the text's end where they do not all fit, and the place of the next call.
+// Makes the call that stands at a place of a job (HEADER_BYTES for the first) on the bench in the words, and writes its lines of the
+// listing, as call number `number`, from a place of the text on. Returns the call's refusal number. Reports the place behind the lines,
+// which is past the text's end where they do not all fit, and the place of the next call.
 #[unsafe(no_mangle)]
 pub extern "C" fn duzh_run_call(
     words: &mut [u64],
@@ -30,7 +30,7 @@ pub extern "C" fn duzh_run_call(
     ensures report { out.new ≡ reported out.old (places_after text.old from (call_lines line number (call_in job.now at) words.old) ∷ (job_call_at job.now at).next ∷ []) }
 {
     let call = job_format::call_at(job, at);
-    let answer = jobs::run_call(words, call);
-    let place = jobs::answer_lines(text, from, words, line, number, answer);
-    c_answers::report_made(out, place, call, answer)
+    let told = calls::told(jobs::run_call(words, call));
+    let place = jobs::answer_lines(text, from, words, line, number, told);
+    c_answers::report_made(out, place, call, told)
 }
