@@ -6,29 +6,18 @@
 // Any other line is a remark. A call prints: case; well formed before it; refusal, kind, value, sent, tiles; each changed place.
 #![tactic(auto)]
 
-ghost use Rattle.std.specs.Prelude.{◌≡◌, length};
-ghost use Rattle.bench_vectors.specs.Sizes.{input_bytes};
-
 use calls::Answer;
-use program_io::{number_at, print_decimal, print_named, print_text};
-use std::io;
+use job_format::JobCall;
+use program_io::{Case, Cases, number_at};
 use std::io::{BufWriter, Write};
+use std::{fmt, io};
 
-// The sizes of the input, of a line of numbers, and of the lent memory, which is more than a bench of 64 tiles needs.
+// The sizes of the input and of the lent memory, which is more than a bench of 64 tiles needs.
 const INPUT_BYTES: usize = 393216;
-
-const CASE_NUMBERS: usize = 64;
 
 const LENT_WORDS: usize = 5600;
 
 const DECIMAL: u64 = 10;
-
-// ---- the first byte of a line
-const PUT: u8 = b'w';
-
-const CALL: u8 = b'c';
-
-const START: u8 = b's';
 
 // ---- the numbers of a line
 // of a call and of a start
@@ -49,180 +38,91 @@ const TILE_COUNT_AT: usize = 2;
 const MEMORY_AT: usize = 3;
 // of words that are put: a place and its word
 const PLACE_AND_WORD: usize = 2;
+// no call of these stands in a job, and `run_call`, which takes a job's call whole, does not look at it
+const NO_NEXT: usize = 0;
 
-// ---- what is printed of a test
-const YES: u64 = 1;
+// An answer in the paper's numbers.
+#[derive(Clone, Copy)]
+struct Told(Answer);
 
-const NO: u64 = 0;
-
-fn changed<W: Write>(out: &mut W, place: usize, word: u64) -> io::Result<()> {
-    write!(out, " {place}={word}")
+impl fmt::Display for Told {
+    fn fmt<W: fmt::Write>(&self, f: &mut fmt::Formatter<W>) -> fmt::Result {
+        let told = calls::told(self.0);
+        write!(
+            f,
+            "refusal {} kind {} value {} sent {} tiles {}",
+            told.refusal, told.kind, told.value, told.sent, told.tiles
+        )
+    }
 }
 
-// The word at place i, if it changed; `before` then has it too.
-fn compare_one<W: Write>(
+fn call(words: &mut [u64], numbers: &[u64]) -> Answer {
+    let call = JobCall {
+        tag: number_at(numbers, TAG_AT),
+        tile: number_at(numbers, TILE_AT),
+        word: number_at(numbers, WORD_AT),
+        value: number_at(numbers, VALUE_AT),
+        next: NO_NEXT,
+    };
+    jobs::run_call(words, call)
+}
+
+fn start(words: &mut [u64], numbers: &[u64]) -> Answer {
+    let memory = std::array::from_fn(|word| number_at(numbers, MEMORY_AT + word));
+    bench::start(words, number_at(numbers, TILE_COUNT_AT), memory)
+}
+
+// Runs a call or a start on the first ROOM words, if there are as many, and prints what it did.
+fn show<W: Write, F: FnOnce(&mut [u64], &[u64]) -> Answer>(
     out: &mut W,
-    before: &mut [u64],
-    words: &[u64],
-    i: usize,
-) -> io::Result<()> {
-    if i < before.len() {
-        if i < words.len() {
-            let was = before[i];
-            let is = words[i];
-            if was != is {
-                before[i] = is;
-                changed(out, i, is)?;
-            }
-        }
-    }
-    Ok(())
-}
-
-fn compare<W: Write>(out: &mut W, before: &mut [u64], words: &[u64]) -> io::Result<()> {
-    print_text(out, b" words")?;
-    for i in 0..words.len() {
-        compare_one(out, before, words, i)?;
-    }
-    print_text(out, b"\n")
-}
-
-fn formed<W: Write>(out: &mut W, words: &[u64]) -> io::Result<()> {
-    let ok = well_formed::well_formed(words);
-    print_text(out, b" formed")?;
-    if ok {
-        print_decimal(out, YES)
-    } else {
-        print_decimal(out, NO)
-    }
-}
-
-fn show<W: Write>(out: &mut W, answer: Answer) -> io::Result<()> {
-    print_named(out, b" refusal", answer.refusal)?;
-    print_named(out, b" kind", answer.kind)?;
-    print_named(out, b" value", answer.value)?;
-    print_named(out, b" sent", answer.sent)?;
-    print_named(out, b" tiles", answer.tiles)
-}
-
-fn call(words: &mut [u64], tag: u64, tile: u64, word: u64, value: u64) -> Answer {
-    if calls::is_tile_call(tag) {
-        bench::at_tile(words, tag, tile, word, value)
-    } else {
-        bench::at_home(words, tag, tile)
-    }
-}
-
-fn call_on<W: Write>(out: &mut W, words: &mut [u64], numbers: &[u64]) -> io::Result<()> {
-    formed(out, words)?;
-    let answer = call(
-        words,
-        number_at(numbers, TAG_AT),
-        number_at(numbers, TILE_AT),
-        number_at(numbers, WORD_AT),
-        number_at(numbers, VALUE_AT),
-    );
-    show(out, answer)
-}
-
-fn start_on<W: Write>(out: &mut W, words: &mut [u64], numbers: &[u64]) -> io::Result<()> {
-    formed(out, words)?;
-    let memory = [
-        number_at(numbers, MEMORY_AT),
-        number_at(numbers, MEMORY_AT + 1),
-        number_at(numbers, MEMORY_AT + 2),
-        number_at(numbers, MEMORY_AT + 3),
-        number_at(numbers, MEMORY_AT + 4),
-        number_at(numbers, MEMORY_AT + 5),
-        number_at(numbers, MEMORY_AT + 6),
-        number_at(numbers, MEMORY_AT + 7),
-    ];
-    let answer = bench::start(words, number_at(numbers, TILE_COUNT_AT), memory);
-    show(out, answer)
-}
-
-fn one_case<W: Write>(
-    out: &mut W,
-    command: u8,
+    run: F,
+    words: &mut [u64; LENT_WORDS],
     numbers: &[u64],
-    words: &mut [u64],
-) -> io::Result<()> {
-    print_text(out, b"case")?;
-    print_decimal(out, number_at(numbers, CASE_AT))?;
-    let room = number_at(numbers, ROOM_AT) as usize;
-    if room <= words.len() {
-        if command == CALL {
-            call_on(out, &mut words[..room], numbers)?;
-        } else {
-            start_on(out, &mut words[..room], numbers)?;
-        }
-    }
-    Ok(())
-}
-
-fn put(words: &mut [u64], place: usize, word: u64) {
-    if place < words.len() {
-        words[place] = word;
-    }
-}
-
-fn put_all(numbers: &[u64], words: &mut [u64], before: &mut [u64]) {
-    let mut i = 0;
-    while i < numbers.len() {
-        let place = number_at(numbers, i) as usize;
-        let word = number_at(numbers, i + 1);
-        put(words, place, word);
-        put(before, place, word);
-        i += PLACE_AND_WORD;
-    }
-}
-
-fn run<W: Write>(
-    out: &mut W,
-    command: u8,
-    numbers: &[u64],
-    words: &mut [u64],
-    before: &mut [u64],
-) -> io::Result<()> {
-    if command == PUT {
-        put_all(numbers, words, before);
-    } else if command == CALL || command == START {
-        one_case(out, command, numbers, words)?;
-        compare(out, before, words)?;
-    }
-    Ok(())
-}
-
-fn cases<W: Write>(
-    out: &mut W,
-    input: &[u8],
-    numbers: &mut [u64],
-    words: &mut [u64],
-    before: &mut [u64],
-) -> io::Result<()> {
-    let mut from = 0;
-    while from < input.len() {
-        let line = program_io::case_line_at(input, from, DECIMAL, numbers);
-        let count = line.count;
-        run(out, line.command, &numbers[..count], words, before)?;
-        from = line.next;
-    }
-    Ok(())
-}
-
-fn input_buffer() -> [u8; INPUT_BYTES]
-    ensures { input_bytes ≡ length result }
+) -> io::Result<()>
+    requires { F.IsAlwaysCallable run }
 {
-    [0; INPUT_BYTES]
+    let before = *words;
+    write!(out, "case {}", number_at(numbers, CASE_AT))?;
+    if let Some(lent) = words.get_mut(..number_at(numbers, ROOM_AT) as usize) {
+        let formed = u64::from(well_formed::well_formed(lent));
+        let told = Told(run(lent, numbers));
+        write!(out, " formed {formed} {told}")?;
+    }
+    write!(out, " words")?;
+    for (place, (was, is)) in before.iter().zip(words.iter()).enumerate() {
+        if was != is {
+            write!(out, " {place}={is}")?;
+        }
+    }
+    writeln!(out)
+}
+
+fn put(words: &mut [u64], numbers: &[u64]) {
+    for pair in numbers.chunks(PLACE_AND_WORD) {
+        if let Some(word) = words.get_mut(number_at(pair, 0) as usize) {
+            *word = number_at(pair, 1);
+        }
+    }
+}
+
+fn one<W: Write>(out: &mut W, words: &mut [u64; LENT_WORDS], case: &Case) -> io::Result<()> {
+    let numbers = case.numbers.as_slice();
+    match case.command {
+        Some(b'w') => put(words, numbers),
+        Some(b'c') => show(out, call, words, numbers)?,
+        Some(b's') => show(out, start, words, numbers)?,
+        _ => {}
+    }
+    Ok(())
 }
 
 fn main(rt: HostRuntime) -> io::Result<()> {
-    let mut input = input_buffer();
-    let mut numbers = [0u64; CASE_NUMBERS];
-    let mut words = [0u64; LENT_WORDS];
-    let mut before = [0u64; LENT_WORDS];
-    let n = program_io::read_full(&mut rt.stdin(), &mut input)?;
+    let mut buffer = vec![in rt.alloc(); 0; INPUT_BYTES]?;
+    let input = program_io::read_full(&mut rt.stdin(), buffer.as_mut_slice())?;
+    let mut words = [0; LENT_WORDS];
     let mut out = BufWriter::new(rt.alloc(), rt.stdout())?;
-    cases(&mut out, &input[..n], &mut numbers, &mut words, &mut before)?;
+    for case in Cases::new(rt.alloc(), input, DECIMAL) {
+        one(&mut out, &mut words, &case?)?;
+    }
     out.flush()
 }

@@ -6,173 +6,119 @@
 // Any other line is a remark.
 #![tactic(auto)]
 
-use flits::{Header, Node};
-use program_io::{number_at, print_decimal, print_named, print_text, print_words};
-use std::io;
+use flits::walker::Walked;
+use flits::{FIELDS, Header, Node};
+use program_io::{Case, Cases, Words};
 use std::io::{BufWriter, Write};
-
-// the numbers of a line `w`: the fields in the order of `Header`, then ROOM, PLACE and the words
-const TO_AT: usize = 2;
-
-const FROM_AT: usize = 14;
-
-const ROOM_AT: usize = 18;
-
-const PLACE_AT: usize = 19;
-
-const WORDS_AT: usize = 20;
+use std::{fmt, io};
 
 const MOST_ROOM: usize = 16;
 // what stands in a buffer before a message is written
 const UNWRITTEN: u64 = 0xEEEE_EEEE_EEEE_EEEE;
 
-const HEXADECIMAL: u64 = 16;
+// what is printed of a message that is refused
+const NOTHING_READ: &str = "used 0 start 0 type 0 tag 0 to 0 0 0 0 options 0 0 0 0 \
+     address 0 vector 0 icache 0 size 0 from 0 0 0 0";
 
-const MOST_NUMBERS: usize = 64;
+const HEXADECIMAL: u64 = 16;
 
 const INPUT_BYTES: usize = 65536;
 
-fn node<W: Write>(out: &mut W, name: &[u8], n: Node) -> io::Result<()> {
-    print_named(out, name, n.chip)?;
-    print_decimal(out, n.x)?;
-    print_decimal(out, n.y)?;
-    print_decimal(out, n.port)
-}
+// A node's fields.
+#[derive(Clone, Copy)]
+struct NodeFields(Node);
 
-fn flit2_fields<W: Write>(out: &mut W, h: Header) -> io::Result<()> {
-    let address = h.address;
-    write!(out, " address {address:x}")?;
-    print_named(out, b" vector", h.vector)?;
-    print_named(out, b" icache", h.icache)?;
-    print_named(out, b" size", h.size)
-}
-
-fn fields<W: Write>(out: &mut W, h: Header) -> io::Result<()> {
-    print_named(out, b" type", h.opcode)?;
-    print_named(out, b" tag", h.tag)?;
-    let to = h.to;
-    node(out, b" to", to)?;
-    print_named(out, b" options", h.state)?;
-    print_decimal(out, h.miss)?;
-    print_decimal(out, h.address54)?;
-    print_decimal(out, h.last)?;
-    flit2_fields(out, h)?;
-    let from = h.from;
-    node(out, b" from", from)
-}
-
-fn show_read<W: Write>(out: &mut W, s: &[u64]) -> io::Result<()> {
-    let r = flits::read(s);
-    print_named(out, b"read", r.refusal)?;
-    print_named(out, b" used", r.used as u64)?;
-    print_named(out, b" start", r.start as u64)?;
-    let h = r.header;
-    fields(out, h)?;
-    print_text(out, b" data")?;
-    let data = flits::data_words(s);
-    print_words(out, data, data.len())?;
-    print_text(out, b"\n")
-}
-
-fn show_walk<W: Write>(out: &mut W, s: &[u64]) -> io::Result<()> {
-    let r = flits::walker::walk(s);
-    print_named(out, b"walk messages", r.messages as u64)?;
-    print_named(out, b" at", r.at as u64)?;
-    print_named(out, b" refusal", r.refusal)?;
-    print_text(out, b"\n")
-}
-
-fn node_at(s: &[u64], i: usize) -> Node {
-    if i <= FROM_AT {
-        Node {
-            chip: number_at(s, i),
-            x: number_at(s, i + 1),
-            y: number_at(s, i + 2),
-            port: number_at(s, i + 3),
-        }
-    } else {
-        Node {
-            chip: 0,
-            x: 0,
-            y: 0,
-            port: 0,
-        }
+impl fmt::Display for NodeFields {
+    fn fmt<W: fmt::Write>(&self, f: &mut fmt::Formatter<W>) -> fmt::Result {
+        let Node { chip, x, y, port } = self.0;
+        write!(f, "{chip} {x} {y} {port}")
     }
 }
 
-fn header_at(s: &[u64]) -> Header {
-    Header {
-        opcode: number_at(s, 0),
-        tag: number_at(s, 1),
-        to: node_at(s, TO_AT),
-        state: number_at(s, 6),
-        miss: number_at(s, 7),
-        address54: number_at(s, 8),
-        last: number_at(s, 9),
-        address: number_at(s, 10),
-        vector: number_at(s, 11),
-        icache: number_at(s, 12),
-        size: number_at(s, 13),
-        from: node_at(s, FROM_AT),
+// A header's fields with their names.
+#[derive(Clone, Copy)]
+struct HeaderFields(Header);
+
+impl fmt::Display for HeaderFields {
+    fn fmt<W: fmt::Write>(&self, f: &mut fmt::Formatter<W>) -> fmt::Result {
+        let h = self.0;
+        write!(f, "type {} tag {} to {}", h.opcode, h.tag, NodeFields(h.to))?;
+        write!(
+            f,
+            " options {} {} {} {}",
+            h.state, h.miss, h.address54, h.last
+        )?;
+        write!(
+            f,
+            " address {:x} vector {} icache {}",
+            h.address, h.vector, h.icache
+        )?;
+        write!(f, " size {} from {}", h.size, NodeFields(h.from))
     }
 }
 
-fn write_into<W: Write>(
-    out: &mut W,
-    h: Header,
-    data: &[u64],
-    buffer: &mut [u64],
-    place: u64,
-) -> io::Result<()> {
-    let r = flits::write(h, data, buffer, place as usize);
-    print_named(out, b"write", r.refusal)?;
-    print_named(out, b" flits", r.flits as u64)?;
-    print_text(out, b" buffer")?;
-    print_words(out, buffer, buffer.len())?;
-    print_text(out, b"\n")
+fn show_read<W: Write>(out: &mut W, flits: &[u64]) -> io::Result<()> {
+    match flits::read(flits) {
+        Ok(read) => write!(
+            out,
+            "read 0 used {} start {} {}",
+            read.used,
+            read.start,
+            HeaderFields(read.header)
+        )?,
+        Err(refusal) => write!(out, "read {} {NOTHING_READ}", u64::from(refusal))?,
+    }
+    writeln!(out, " data{}", Words(flits::data_words(flits)))
 }
 
-fn show_write<W: Write>(out: &mut W, s: &[u64]) -> io::Result<()> {
+fn show_walk<W: Write>(out: &mut W, flits: &[u64]) -> io::Result<()> {
+    let Walked {
+        messages,
+        at,
+        refusal,
+    } = flits::walker::walk(flits);
+    writeln!(
+        out,
+        "walk messages {messages} at {at} refusal {}",
+        u64::from(refusal)
+    )
+}
+
+fn show_write<W: Write>(out: &mut W, numbers: &[u64]) -> io::Result<()> {
+    let Some((fields, rest)) = numbers.split_first_chunk::<FIELDS>() else {
+        return Ok(());
+    };
+    let Some((&[room, place], words)) = rest.split_first_chunk::<2>() else {
+        return Ok(());
+    };
+    let header = Header::from(*fields);
     let mut buffer = [UNWRITTEN; MOST_ROOM];
-    let h = header_at(s);
-    let room = number_at(s, ROOM_AT) as usize;
-    let place = number_at(s, PLACE_AT);
-    if room <= MOST_ROOM {
-        if WORDS_AT <= s.len() {
-            write_into(out, h, &s[WORDS_AT..], &mut buffer[..room], place)?;
-        }
+    let Some(buffer) = buffer.get_mut(..room as usize) else {
+        return Ok(());
+    };
+    match flits::write(header, words, buffer, place as usize) {
+        Ok(flits) => write!(out, "write 0 flits {flits}")?,
+        Err(refusal) => write!(out, "write {} flits 0", u64::from(refusal))?,
     }
-    Ok(())
+    writeln!(out, " buffer{}", Words(buffer))
 }
 
-fn run<W: Write>(out: &mut W, command: u8, s: &[u64]) -> io::Result<()> {
-    if command == b'r' {
-        show_read(out, s)
-    } else if command == b'w' {
-        show_write(out, s)
-    } else if command == b'k' {
-        show_walk(out, s)
-    } else {
-        Ok(())
+fn run<W: Write>(out: &mut W, case: &Case) -> io::Result<()> {
+    let numbers = case.numbers.as_slice();
+    match case.command {
+        Some(b'r') => show_read(out, numbers),
+        Some(b'w') => show_write(out, numbers),
+        Some(b'k') => show_walk(out, numbers),
+        _ => Ok(()),
     }
-}
-
-fn cases<W: Write>(out: &mut W, input: &[u8], numbers: &mut [u64]) -> io::Result<()> {
-    let mut from = 0;
-    while from < input.len() {
-        let line = program_io::case_line_at(input, from, HEXADECIMAL, numbers);
-        let count = line.count;
-        run(out, line.command, &numbers[..count])?;
-        from = line.next;
-    }
-    Ok(())
 }
 
 fn main(rt: HostRuntime) -> io::Result<()> {
-    let mut input = [0u8; INPUT_BYTES];
-    let mut numbers = [0u64; MOST_NUMBERS];
-    let n = program_io::read_full(&mut rt.stdin(), &mut input)?;
+    let mut buffer = [0; INPUT_BYTES];
+    let input = program_io::read_full(&mut rt.stdin(), &mut buffer)?;
     let mut out = BufWriter::new(rt.alloc(), rt.stdout())?;
-    cases(&mut out, &input[..n], &mut numbers)?;
+    for case in Cases::new(rt.alloc(), input, HEXADECIMAL) {
+        run(&mut out, &case?)?;
+    }
     out.flush()
 }

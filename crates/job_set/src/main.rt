@@ -2,98 +2,69 @@
 // before them the same of every cut of the first one: its first n bytes, for each n below its length.
 #![tactic(auto)]
 
-ghost use Rattle.std.specs.Prelude.{◌≤◌, length};
-
 use job_print::{BENCH_WORDS, BUFFER_BYTES, INPUT_BYTES};
-use std::io::{Read, Write};
+use std::io::Write;
 use std::rt::Files;
 use std::{env, fs, io};
 
-fn title<W: Write>(out: &mut W, name: &str) -> io::Result<()> {
-    writeln!(out, "== {name}")
+// Where listings go, and what jobs are run in.
+#[derive(Drop)]
+struct Runner<W> {
+    out: W,
+    words: [u64; BENCH_WORDS],
+    buffer: [u8; BUFFER_BYTES],
 }
 
-fn cut_title<W: Write>(out: &mut W, n: usize) -> io::Result<()> {
-    writeln!(out, "== cut {n}")
-}
-
-// Every cut of the first bytes of the input.
-fn cuts<W: Write>(
-    out: &mut W,
-    words: &mut [u64; BENCH_WORDS],
-    input: &[u8; INPUT_BYTES],
-    count: usize,
-    buffer: &mut [u8; BUFFER_BYTES],
-) -> io::Result<()>
-    requires { count ≤ length input.now }
-{
-    for n in 0..count {
-        cut_title(out, n)?;
-        job_print::print_job(out, words, input, n, buffer)?;
+impl<W: Write> Runner<W> {
+    fn print(&mut self, job: &[u8]) -> io::Result<()> {
+        job_print::print_job(&mut self.out, &mut self.words, job, &mut self.buffer)
     }
-    Ok(())
-}
 
-// The job in an open file: its cuts, or itself.
-fn run_file<W: Write, F: Read>(
-    out: &mut W,
-    file: &mut F,
-    name: &str,
-    is_cut: bool,
-    words: &mut [u64; BENCH_WORDS],
-    buffer: &mut [u8; BUFFER_BYTES],
-) -> io::Result<()> {
-    let mut input = [0u8; INPUT_BYTES];
-    let count = program_io::read_full(file, &mut input)?;
-    if is_cut {
-        cuts(out, words, &input, count, buffer)
-    } else {
-        title(out, name)?;
-        job_print::print_job(out, words, &input, count, buffer)
+    fn job(&mut self, name: &str, job: &[u8]) -> io::Result<()> {
+        writeln!(self.out, "== {name}")?;
+        self.print(job)
+    }
+
+    fn cuts(&mut self, job: &[u8]) -> io::Result<()> {
+        for n in 0..job.len() {
+            writeln!(self.out, "== cut {n}")?;
+            self.print(&job[..n])?;
+        }
+        Ok(())
     }
 }
 
 // The job in the file of a name. A file that cannot be opened is only named on standard error.
-fn run<R: Files + Eprint, W: Write>(
+fn read_job<'a, R: Files + Eprint>(
     rt: &R,
-    out: &mut W,
     name: &str,
-    is_cut: bool,
-    words: &mut [u64; BENCH_WORDS],
-    buffer: &mut [u8; BUFFER_BYTES],
-) -> io::Result<()> {
+    input: &'a mut [u8; INPUT_BYTES],
+) -> io::Result<Option<&'a [u8]>> {
     match fs::open(rt, name) {
-        Ok(mut file) => run_file(out, &mut file, name, is_cut, words, buffer),
-        Err(error) => eprintln!(rt; "{name}: {error}"),
-    }
-}
-
-fn run_all<R: Files + Eprint, W: Write>(
-    rt: &R,
-    out: &mut W,
-    names: &[String],
-    words: &mut [u64; BENCH_WORDS],
-    buffer: &mut [u8; BUFFER_BYTES],
-) -> io::Result<()> {
-    for name in names {
-        run(rt, out, name.as_str(), false, words, buffer)?;
-    }
-    Ok(())
-}
-
-// The first name, empty where there is none.
-fn first(names: &[String]) -> &str {
-    match names.first() {
-        Some(name) => name.as_str(),
-        None => "",
+        Ok(mut file) => Ok(Some(program_io::read_full(&mut file, input)?)),
+        Err(error) => {
+            eprintln!(rt; "{name}: {error}")?;
+            Ok(None)
+        }
     }
 }
 
 fn main(rt: HostRuntime) -> io::Result<()> {
     let names: Vec<String> = env::args(&rt)?.skip(1).collect(rt.alloc())?;
-    let mut out = rt.stdout();
-    let mut words = [0u64; BENCH_WORDS];
-    let mut buffer = [0u8; BUFFER_BYTES];
-    run(&rt, &mut out, first(&names), true, &mut words, &mut buffer)?;
-    run_all(&rt, &mut out, &names, &mut words, &mut buffer)
+    let mut input = [0; INPUT_BYTES];
+    let mut runner = Runner {
+        out: rt.stdout(),
+        words: [0; BENCH_WORDS],
+        buffer: [0; BUFFER_BYTES],
+    };
+    let first = names.first().map_or("", |name| name.as_str());
+    if let Some(job) = read_job(&rt, first, &mut input)? {
+        runner.cuts(job)?;
+    }
+    for name in &names {
+        if let Some(job) = read_job(&rt, name.as_str(), &mut input)? {
+            runner.job(name.as_str(), job)?;
+        }
+    }
+    Ok(())
 }

@@ -1,119 +1,107 @@
 // Checks jobs and prints what they hold: the refused line; or the bench line, the memory words as a message's line, a line for each of the
 // first calls (tag, tile, word, value) and the end line. Each job stands behind its length in three bytes.
-ghost use Rattle.std.specs.Prelude.{◌+◌, ◌≤◌, ◌<◌, length};
-ghost use Rattle.job_format.specs.Bytes.{byte_values};
+ghost use Rattle.std.specs.Prelude.{◌≡◌, ◌+◌, ◌-◌, ◌≤◌, ◌<◌, length};
+ghost use Rattle.std.specs.Iterator.{at_most};
 
 use job_format::places::HEADER_BYTES;
-use numbers::refusals::ACCEPTED;
+use job_format::{JobCall, JobFault};
 use std::io;
 use std::io::Write;
 
-const BYTE_VALUES: usize = 256;
-
-const LENGTH_BYTES: usize = 3;
 // calls of a job that get a line
-const LISTED_CALLS: u64 = 12;
+const LISTED_CALLS: usize = 12;
 // room for the line of a refused job, and for the lines of an accepted one
 const LINE_ROOM: usize = 64;
 
 const LINES_ROOM: usize = 4096;
 
-fn refused<W: Write>(out: &mut W, number: u64, offset: usize) -> io::Result<()> {
-    let mut buffer = [0u8; LINE_ROOM];
-    let next = listing::refused_line(&mut buffer, 0, number, offset as u64);
-    program_io::print_fitted(out, &buffer, next)
-}
+// The jobs of an input, in order. One that is cut off is not looked at.
+#[derive(Drop)]
+struct Jobs<'a>(&'a [u8]);
 
-fn call(buffer: &mut [u8], next: usize, job: &[u8], at: usize, before: u64) -> usize {
-    if before < LISTED_CALLS {
-        let c = job_format::call_at(job, at);
-        listing::call_line(buffer, next, c.tag, c.tile, c.word, c.value)
-    } else {
-        next
+impl<'a> Iterator for Jobs<'a> {
+    type Item = &'a [u8];
+
+    ghost remaining = { λ s. at_most (length s.0.now) };
+
+    fn next(&mut self) -> Option<&'a [u8]> {
+        let (length, rest) = self.0.split_first_chunk::<3>()?;
+        let [high, middle, low] = *length;
+        let length = u32::from_be_bytes([0, high, middle, low]) as usize;
+        let (job, rest) = rest.split_at_checked(length)?;
+        self.0 = rest;
+        Some(job)
     }
 }
 
-fn behind(job: &[u8], at: usize) -> usize
-    requires { at < length job.now }
-    ensures { at < result }
-{
-    let c = job_format::call_at(job, at);
-    c.next
+// The calls of an accepted job, in order.
+#[derive(Drop)]
+struct Calls<'a> {
+    job: &'a [u8],
+    at: usize,
 }
 
-fn calls(buffer: &mut [u8], start: usize, job: &[u8]) -> usize {
-    let mut next = start;
-    let mut at = HEADER_BYTES;
-    let mut count: u64 = 0;
-    while at < job.len() {
-        next = call(buffer, next, job, at, count);
-        count += 1;
-        at = behind(job, at);
+impl Iterator for Calls<'_> {
+    type Item = JobCall;
+
+    ghost remaining = { λ s. at_most (length s.job.now - s.at) };
+
+    fn next(&mut self) -> Option<JobCall> {
+        if self.at >= self.job.len() {
+            return None;
+        }
+        let call = job_format::call_at(self.job, self.at);
+        self.at = call.next;
+        Some(call)
     }
-    listing::end_line(buffer, next, count)
+}
+
+impl<'a> Calls<'a> {
+    fn of(job: &'a [u8]) -> Calls<'a> {
+        Calls {
+            job,
+            at: HEADER_BYTES,
+        }
+    }
+}
+
+fn refused<W: Write>(out: &mut W, fault: JobFault) -> io::Result<()> {
+    let mut buffer = [0; LINE_ROOM];
+    let place = listing::refused_line(
+        &mut buffer,
+        0,
+        u64::from(fault.refusal),
+        fault.offset as u64,
+    );
+    program_io::print_fitted(out, &buffer, place)
 }
 
 fn accepted<W: Write>(out: &mut W, job: &[u8]) -> io::Result<()> {
-    let mut buffer = [0u8; LINES_ROOM];
+    let mut buffer = [0; LINES_ROOM];
     let count = job_format::tile_count(job);
     let address = job_format::line_address(job);
-    let words = job_format::memory(job);
-    let p = listing::bench_line(&mut buffer, 0, count, address);
-    let q = listing::message_line(&mut buffer, p, &words);
-    let r = calls(&mut buffer, q, job);
-    program_io::print_fitted(out, &buffer, r)
-}
-
-fn one<W: Write>(out: &mut W, job: &[u8]) -> io::Result<()> {
-    let c = job_format::check_job(job);
-    let number = c.refusal;
-    let offset = c.offset;
-    if number == ACCEPTED {
-        accepted(out, job)
-    } else {
-        refused(out, number, offset)
+    let mut place = listing::bench_line(&mut buffer, 0, count, address);
+    place = listing::message_line(&mut buffer, place, &job_format::memory(job));
+    for call in Calls::of(job).take(LISTED_CALLS) {
+        place = listing::call_line(
+            &mut buffer,
+            place,
+            call.tag,
+            call.tile,
+            call.word,
+            call.value,
+        );
     }
-}
-
-fn byte(input: &[u8], at: usize) -> usize
-    ensures { result < byte_values }
-{
-    if at < input.len() {
-        input[at] as usize
-    } else {
-        0
-    }
-}
-
-// The place behind the job whose length stands at a place.
-fn step(input: &[u8], at: usize) -> usize
-    requires { at < length input.now }
-    ensures { at < result }
-{
-    let high = byte(input, at) * BYTE_VALUES + byte(input, at + 1);
-    let count = high * BYTE_VALUES + byte(input, at + 2);
-    at + LENGTH_BYTES + count
-}
-
-// The job behind the length at a place, up to the place behind it. One that is cut off is not looked at.
-fn show<W: Write>(out: &mut W, input: &[u8], at: usize, next: usize) -> io::Result<()>
-    requires { at < length input.now }
-{
-    let from = at + LENGTH_BYTES;
-    if from <= next {
-        if next <= input.len() {
-            one(out, &input[from..next])?;
-        }
-    }
-    Ok(())
+    place = listing::end_line(&mut buffer, place, Calls::of(job).count() as u64);
+    program_io::print_fitted(out, &buffer, place)
 }
 
 pub fn all<W: Write>(out: &mut W, input: &[u8]) -> io::Result<()> {
-    let mut at = 0;
-    while at < input.len() {
-        let next = step(input, at);
-        show(out, input, at, next)?;
-        at = next;
+    for job in Jobs(input) {
+        match job_format::check_job(job) {
+            Ok(()) => accepted(out, job)?,
+            Err(fault) => refused(out, fault)?,
+        }
     }
     Ok(())
 }

@@ -1,7 +1,7 @@
 // Prints 01's listing line by line, then numbers at the ends of their ranges, then what a buffer with too little room holds.
-use numbers::kinds::{KIND_LOADED, KIND_SENT};
+use numbers::kinds::Kind;
 use numbers::limits::{MOST_JOB_BYTES, MOST_TILES};
-use numbers::refusals::{ACCEPTED, JOB_PLACE, JOB_TOO_LONG, NO_ROOM};
+use numbers::refusals::Refusal;
 use std::io;
 use std::io::Write;
 
@@ -26,7 +26,6 @@ const LOAD_MEM_ACK_1: u64 = 0x02060000;
 const DATA_ACK_1: u64 = 0x02074028;
 
 // ---- ends of ranges
-const GREATEST_WORD: u64 = 18446744073709551615;
 // the least number of 20 digits
 const TWENTY_DIGITS: u64 = 10000000000000000000;
 
@@ -35,12 +34,6 @@ const EVERY_DIGIT: u64 = 0x0123456789ABCDEF;
 const TWELVE_DIGITS: u64 = 0xFEDCBA987640;
 
 const LAST_LINE: u64 = 0xFFFFFFFFFFC0;
-// the last number of one digit, the first of two and of three
-const NINE: u64 = 9;
-
-const TEN: u64 = 10;
-
-const HUNDRED: u64 = 100;
 
 // ---- a buffer that holds 'end 12345' and its newline
 const TIGHT_ROOM: usize = 10;
@@ -49,10 +42,6 @@ const FITS: u64 = 12345;
 
 const DOES_NOT_FIT: u64 = 123456;
 
-const ONE_DIGIT: u64 = 1;
-
-const DOT: u8 = b'.';
-
 // ---- room for 01's listing, for numbers, for one line
 const LISTING_ROOM: usize = 1024;
 
@@ -60,84 +49,101 @@ const NUMBERS_ROOM: usize = 512;
 
 const LINE_ROOM: usize = 64;
 
-// The lines of an accepted call that sent a message.
-fn sent(buffer: &mut [u8], at: usize, number: u64, flits: &[u64]) -> usize {
-    let p = listing::call_line(buffer, at, number, ACCEPTED, KIND_SENT, 0);
-    listing::message_line(buffer, p, flits)
-}
+// of an accepted call
+const NO_REFUSAL: u64 = 0;
 
-fn requests(buffer: &mut [u8]) -> usize {
-    let p = listing::bench_line(buffer, 0, ONE_TILE, LISTING_LINE);
-    let p = sent(buffer, p, 1, &[LOAD_REQ_1, LOAD_REQ_2, 0]);
-    sent(buffer, p, 2, &[LOAD_MEM_1, LOAD_MEM_2, 0])
-}
-
-fn answers(buffer: &mut [u8], at: usize) -> usize {
-    let p = sent(buffer, at, 3, &[LOAD_MEM_ACK_1, WORD, 0, 0, 0, 0, 0, 0, 0]);
-    let p = sent(buffer, p, 4, &[DATA_ACK_1, WORD, 0, 0, 0, 0, 0, 0, 0]);
-    let p = listing::call_line(buffer, p, 5, ACCEPTED, KIND_LOADED, WORD);
-    listing::end_line(buffer, p, 5)
-}
-
+// Of each message, the line of the call that sent it and the message's own.
 fn paper<W: Write>(out: &mut W) -> io::Result<()> {
-    let mut buffer = [0u8; LISTING_ROOM];
-    let p = requests(&mut buffer);
-    let p = answers(&mut buffer, p);
-    program_io::print_fitted(out, &buffer, p)
+    let messages: [&[u64]; 4] = [
+        &[LOAD_REQ_1, LOAD_REQ_2, 0],
+        &[LOAD_MEM_1, LOAD_MEM_2, 0],
+        &[LOAD_MEM_ACK_1, WORD, 0, 0, 0, 0, 0, 0, 0],
+        &[DATA_ACK_1, WORD, 0, 0, 0, 0, 0, 0, 0],
+    ];
+    let mut buffer = [0; LISTING_ROOM];
+    let mut place = listing::bench_line(&mut buffer, 0, ONE_TILE, LISTING_LINE);
+    for (number, flits) in (1..=4).zip(messages) {
+        place = listing::call_line(
+            &mut buffer,
+            place,
+            number,
+            NO_REFUSAL,
+            u64::from(Kind::Sent),
+            0,
+        );
+        place = listing::message_line(&mut buffer, place, flits);
+    }
+    place = listing::call_line(
+        &mut buffer,
+        place,
+        5,
+        NO_REFUSAL,
+        u64::from(Kind::Loaded),
+        WORD,
+    );
+    place = listing::end_line(&mut buffer, place, 5);
+    program_io::print_fitted(out, &buffer, place)
 }
 
-fn newline(buffer: &mut [u8], at: usize) -> usize {
-    listing::message_line(buffer, at, &[])
-}
-
-// A number, and behind it an empty message's line.
-fn number(buffer: &mut [u8], at: usize, value: u64) -> usize {
-    let p = listing::put_decimal(buffer, at, value);
-    newline(buffer, p)
+// An empty message's line.
+fn newline(buffer: &mut [u8], place: usize) -> usize {
+    listing::message_line(buffer, place, &[])
 }
 
 fn decimals<W: Write>(out: &mut W) -> io::Result<()> {
-    let mut buffer = [0u8; NUMBERS_ROOM];
-    let p = number(&mut buffer, 0, 0);
-    let p = number(&mut buffer, p, NINE);
-    let p = number(&mut buffer, p, TEN);
-    let p = number(&mut buffer, p, GREATEST_WORD);
-    program_io::print_fitted(out, &buffer, p)
+    let mut buffer = [0; NUMBERS_ROOM];
+    let mut place = 0;
+    for number in [0, 9, 10, u64::MAX] {
+        place = listing::put_decimal(&mut buffer, place, number);
+        place = newline(&mut buffer, place);
+    }
+    program_io::print_fitted(out, &buffer, place)
 }
 
 fn hexadecimal<W: Write>(out: &mut W) -> io::Result<()> {
-    let mut buffer = [0u8; NUMBERS_ROOM];
-    let p = listing::put_hex16(&mut buffer, 0, EVERY_DIGIT);
-    let p = newline(&mut buffer, p);
-    let p = listing::put_hex16(&mut buffer, p, GREATEST_WORD);
-    let p = newline(&mut buffer, p);
-    let p = listing::put_hex12(&mut buffer, p, TWELVE_DIGITS);
-    let p = newline(&mut buffer, p);
-    let p = listing::call_line(&mut buffer, p, HUNDRED, NO_ROOM, KIND_LOADED, TWENTY_DIGITS);
-    let p = listing::refused_line(&mut buffer, p, JOB_TOO_LONG, MOST_JOB_BYTES as u64);
-    let p = listing::refused_line(&mut buffer, p, JOB_PLACE, 0);
-    let p = listing::bench_line(&mut buffer, p, MOST_TILES, LAST_LINE);
-    program_io::print_fitted(out, &buffer, p)
+    let mut buffer = [0; NUMBERS_ROOM];
+    let mut place = 0;
+    for number in [EVERY_DIGIT, u64::MAX] {
+        place = listing::put_hex16(&mut buffer, place, number);
+        place = newline(&mut buffer, place);
+    }
+    place = listing::put_hex12(&mut buffer, place, TWELVE_DIGITS);
+    place = newline(&mut buffer, place);
+    program_io::print_fitted(out, &buffer, place)
+}
+
+// Lines with numbers at the ends of their ranges.
+fn lines<W: Write>(out: &mut W) -> io::Result<()> {
+    let mut buffer = [0; NUMBERS_ROOM];
+    let no_room = u64::from(Refusal::NoRoom);
+    let loaded = u64::from(Kind::Loaded);
+    let place = listing::call_line(&mut buffer, 0, 100, no_room, loaded, TWENTY_DIGITS);
+    let too_long = u64::from(Refusal::JobTooLong);
+    let place = listing::refused_line(&mut buffer, place, too_long, MOST_JOB_BYTES as u64);
+    let place = listing::refused_line(&mut buffer, place, u64::from(Refusal::JobPlace), 0);
+    let place = listing::bench_line(&mut buffer, place, MOST_TILES, LAST_LINE);
+    program_io::print_fitted(out, &buffer, place)
 }
 
 // Ten bytes hold 'end 12345' and its newline; 'end 123456' does not fit, and the dots stay.
 fn tight<W: Write>(out: &mut W) -> io::Result<()> {
-    let mut full = [DOT; TIGHT_ROOM];
-    let p = listing::end_line(&mut full, 0, FITS);
-    program_io::print_fitted(out, &full, p)?;
-    let mut dots = [DOT; TIGHT_ROOM];
-    let p = listing::end_line(&mut dots, 0, DOES_NOT_FIT);
-    program_io::print_fitted(out, &dots, TIGHT_ROOM)?;
-    let q = listing::put_decimal(&mut dots, p, ONE_DIGIT);
-    program_io::print_fitted(out, &dots, TIGHT_ROOM)?;
-    let mut buffer = [0u8; LINE_ROOM];
-    let r = listing::call_line(&mut buffer, 0, p as u64, q as u64, 0, 0);
-    program_io::print_fitted(out, &buffer, r)
+    let mut full = [b'.'; TIGHT_ROOM];
+    let place = listing::end_line(&mut full, 0, FITS);
+    program_io::print_fitted(out, &full, place)?;
+    let mut dots = [b'.'; TIGHT_ROOM];
+    let behind = listing::end_line(&mut dots, 0, DOES_NOT_FIT);
+    out.write_all(&dots)?;
+    let still_behind = listing::put_decimal(&mut dots, behind, 1);
+    out.write_all(&dots)?;
+    let mut buffer = [0; LINE_ROOM];
+    let place = listing::call_line(&mut buffer, 0, behind as u64, still_behind as u64, 0, 0);
+    program_io::print_fitted(out, &buffer, place)
 }
 
 pub fn all<W: Write>(out: &mut W) -> io::Result<()> {
     paper(out)?;
     decimals(out)?;
     hexadecimal(out)?;
+    lines(out)?;
     tight(out)
 }

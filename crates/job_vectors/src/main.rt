@@ -10,9 +10,9 @@ use std::io;
 const INPUT_BYTES: usize = 262144;
 
 fn main(rt: HostRuntime) -> io::Result<()> {
-    let mut input = [0u8; INPUT_BYTES];
+    let mut buffer = [0; INPUT_BYTES];
+    let input = program_io::read_full(&mut rt.stdin(), &mut buffer)?;
     let mut out = rt.stdout();
-    let count = program_io::read_full(&mut rt.stdin(), &mut input)?;
-    job_cases::all(&mut out, &input[..count])?;
+    job_cases::all(&mut out, input)?;
     line_cases::all(&mut out)
 }

@@ -1,124 +1,114 @@
 // Test cases as lines: the first byte of a line says what it is, the numbers after it are in base 10 or 16.
-ghost use Rattle.std.specs.Prelude.{◌≡◌, ◌<◌, ◌≤◌, length, slice_index};
+ghost use Rattle.std.specs.Prelude.{◌≡◌, length, slice_index, take, IfOk, ◌==◌, ◌≤◌};
+ghost use Rattle.std.specs.Iterator.{at_most};
+ghost use Rattle.std.specs.List.{prefix_len};
+ghost use Rattle.program_io.specs.Cases.{IsCase, ReadsCase, digit_of, number_of, numbers_of, most_numbers};
 
-const HEXADECIMAL: u64 = 16;
-// of a byte that is no digit
-const NO_DIGIT: u64 = 16;
+use std::alloc::{AllocError, Global};
 
-// A line: its first byte, how many numbers it has, and the place behind it.
+// Numbers of a line behind these are not kept.
+const MOST_NUMBERS: usize = 64;
+
+// A line: its first byte, if it has one, and the numbers after it.
 #[derive(Drop)]
-pub struct CaseLine {
-    pub command: u8,
-    pub count: usize,
-    pub next: usize,
+pub struct Case {
+    pub command: Option<u8>,
+    pub numbers: Vec<u64>,
 }
 
-// The line read so far: its first byte, the numbers that are whole, and the one that is being read.
+// The lines of an input, in order. What stands behind the last newline is a remark.
 #[derive(Drop)]
-struct Begun {
-    command: u8,
-    count: usize,
-    value: u64,
-    begun: bool,
+pub struct Cases<'a> {
+    alloc: Global,
+    input: &'a [u8],
+    base: u64,
 }
 
 // A number of a line, 0 past its end.
 pub fn number_at(numbers: &[u64], index: usize) -> u64
     ensures { result ≡ slice_index numbers.now index }
 {
-    if index < numbers.len() {
-        numbers[index]
-    } else {
-        0
-    }
+    numbers.get(index).copied().unwrap_or(0)
 }
 
-fn digit(byte: u8) -> u64 {
-    match byte {
-        b'0'..=b'9' => (byte - b'0') as u64,
-        b'A'..=b'F' => (byte - b'A' + 10) as u64,
-        _ => NO_DIGIT,
-    }
-}
-
-// A number with a digit more.
-fn longer(number: u64, base: u64, digit: u64) -> u64 {
-    if base == HEXADECIMAL {
-        (number << 4) | digit
-    } else {
-        let twice = number << 1;
-        let ten = std::num::wrapping_add_u64(number << 3, twice);
-        std::num::wrapping_add_u64(ten, digit)
-    }
-}
-
-// The number that was being read, if any, is whole: how many there are.
-fn finish(line: Begun, numbers: &mut [u64]) -> usize
-    ensures { result ≤ length numbers.new }
+// The value of a digit. Letters are capitals, so not `char::to_digit`, which takes small ones too.
+fn digit(byte: u8, base: u64) -> Option<u64>
+    ensures { result ≡ digit_of base byte }
 {
-    let count = line.count;
-    if count < numbers.len() {
-        if line.begun {
-            numbers[count] = line.value;
-            count + 1
-        } else {
-            count
-        }
-    } else {
-        numbers.len()
-    }
+    let value = match byte {
+        b'0'..=b'9' => u64::from(byte - b'0'),
+        b'A'..=b'F' => u64::from(byte - b'A' + 10),
+        _ => return None,
+    };
+    if value < base { Some(value) } else { None }
 }
 
-fn fresh(command: u8, count: usize) -> Begun {
-    Begun {
-        command: command,
-        count: count,
-        value: 0,
-        begun: false,
-    }
-}
-
-// One byte more of a line.
-fn byte(line: Begun, byte: u8, base: u64, numbers: &mut [u64]) -> Begun {
-    if line.command == 0 {
-        fresh(byte, 0)
-    } else {
-        let value = digit(byte);
-        if value < base {
-            Begun {
-                command: line.command,
-                count: line.count,
-                value: longer(line.value, base, value),
-                begun: true,
-            }
-        } else {
-            fresh(line.command, finish(line, numbers))
-        }
-    }
-}
-
-// The line from a place on. One that does not end is a remark.
-pub fn case_line_at(input: &[u8], from: usize, base: u64, numbers: &mut [u64]) -> CaseLine
-    requires { from < length input.now }
-    ensures { (from < result.next) × (result.count ≤ length numbers.new) }
+// The number that some digits say. One that is too large wraps.
+fn number(digits: &[u8], base: u64) -> u64
+    ensures { result ≡ number_of base digits.now }
 {
-    let mut line = fresh(0, 0);
-    let mut i = from;
-    while i < input.len() {
-        let next = input[i];
-        i += 1;
-        if next == b'\n' {
-            return CaseLine {
-                command: line.command,
-                count: finish(line, numbers),
-                next: i,
-            };
-        }
-        line = byte(line, next, base, numbers);
+    digits.iter().filter_map(|byte| digit(*byte, base)).fold(
+        0,
+        |number, digit| number.wrapping_mul(base).wrapping_add(digit),
+    )
+}
+
+// The numbers of a text. Each is a run of digits that is as long as can be.
+fn numbers(alloc: Global, text: &[u8], base: u64) -> Result<Vec<u64>, AllocError>
+    ensures { IfOk result (λ numbers. numbers.items ≡ take most_numbers (numbers_of base text.now)) }
+{
+    text.split(|byte| digit(*byte, base).is_none())
+        .filter(|digits| !digits.is_empty())
+        .map(|digits| number(digits, base))
+        .take(MOST_NUMBERS)
+        .collect(alloc)
+}
+
+// How many bytes 0 stand at the front of a line.
+fn zeros(line: &[u8]) -> usize
+    ensures count { result ≡ prefix_len (λ byte. byte == 0) line.now }
+    ensures within { result ≤ length line.now }
+{
+    line.iter().take_while(|byte| **byte == 0).count()
+}
+
+impl Case {
+    // Bytes 0 before the command are passed over.
+    fn read(alloc: Global, line: &[u8], base: u64) -> Result<Case, AllocError>
+        ensures { IfOk result (IsCase base line.now) }
+    {
+        let Some((command, text)) = line[zeros(line)..].split_first() else {
+            return Ok(Case {
+                command: None,
+                numbers: Vec::new(alloc),
+            });
+        };
+        Ok(Case {
+            command: Some(*command),
+            numbers: numbers(alloc, text, base)?,
+        })
     }
-    CaseLine {
-        command: 0,
-        count: 0,
-        next: i,
+}
+
+impl<'a> Cases<'a> {
+    pub fn new(alloc: Global, input: &'a [u8], base: u64) -> Cases<'a>
+        ensures { (result.input.now ≡ input.entry.now) × (result.base ≡ base) }
+    {
+        Cases { alloc, input, base }
+    }
+}
+
+impl Iterator for Cases<'_> {
+    type Item = Result<Case, AllocError>;
+
+    ghost next_gives = { λ s r t. ReadsCase s.base s.input.now r t.input.now × (t.base ≡ s.base) };
+
+    ghost remaining = { λ s. at_most (length s.input.now) };
+
+    fn next(&mut self) -> Option<Result<Case, AllocError>> {
+        let end = self.input.iter().position(|byte| *byte == b'\n')?;
+        let line = &self.input[..end];
+        self.input = &self.input[end + 1..];
+        Some(Case::read(self.alloc, line, self.base))
     }
 }

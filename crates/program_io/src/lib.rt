@@ -1,4 +1,5 @@
-// What programs read and write. No contract can say what is written; what a test's input says is read by functions on slices.
+// What programs read and write: what the lines of a test's input say (specs/Cases), and what a writer holds that tells it. What reaches a
+// terminal or a file no contract can say.
 // In reading order: reading, a program's input; cases, the lines of a test's input; printing, what is printed for them and for a job.
 #![tactic(auto)]
 
@@ -6,8 +7,6 @@ mod cases;
 mod printing;
 mod reading;
 
-pub use cases::{CaseLine, case_line_at, number_at};
-pub use printing::{
-    print_bytes, print_decimal, print_fitted, print_named, print_text, print_words,
-};
+pub use cases::{Case, Cases, number_at};
+pub use printing::{Words, print_fitted};
 pub use reading::read_full;

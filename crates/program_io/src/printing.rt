@@ -1,52 +1,30 @@
 // Prints on a writer.
-ghost use Rattle.std.specs.Prelude.{◌≤◌, length};
+ghost use Rattle.std.specs.Prelude.{nat_le, if◌then◌else◌, [], length, take, OnOk};
+ghost use Rattle.std.specs.Io.KnownBytes.{Appends};
 
-use std::io;
 use std::io::Write;
+use std::{fmt, io};
 
-pub fn print_text<W: Write>(out: &mut W, bytes: &[u8]) -> io::Result<()> {
-    out.write_all(bytes)
-}
+// Words as hexadecimal numbers of 16 digits, a space before each.
+#[derive(Clone, Copy)]
+pub struct Words<'a>(pub &'a [u64]);
 
-// A space and a number.
-pub fn print_decimal<W: Write>(out: &mut W, number: u64) -> io::Result<()> {
-    write!(out, " {number}")
-}
-
-// A number with its name before it.
-pub fn print_named<W: Write>(out: &mut W, name: &[u8], number: u64) -> io::Result<()> {
-    print_text(out, name)?;
-    print_decimal(out, number)
-}
-
-fn print_word<W: Write>(out: &mut W, words: &[u64], index: usize) -> io::Result<()> {
-    print_text(out, b" ")?;
-    if index < words.len() {
-        let word = words[index];
-        write!(out, "{word:016x}")?;
+impl fmt::Display for Words<'_> {
+    fn fmt<W: fmt::Write>(&self, f: &mut fmt::Formatter<W>) -> fmt::Result {
+        for word in self.0 {
+            write!(f, " {word:016x}")?;
+        }
+        Ok(())
     }
-    Ok(())
 }
 
-// The first words of some, in hexadecimal.
-pub fn print_words<W: Write>(out: &mut W, words: &[u64], count: usize) -> io::Result<()> {
-    for i in 0..count {
-        print_word(out, words, i)?;
-    }
-    Ok(())
-}
-
-// The first bytes of a buffer.
-pub fn print_bytes<W: Write>(out: &mut W, buffer: &[u8], count: usize) -> io::Result<()>
-    requires { count ≤ length buffer.now }
+// Lines that were put at the front of a buffer, up to a place: past its end, they did not fit.
+pub fn print_fitted<W: Write>(out: &mut W, buffer: &[u8], place: usize) -> io::Result<()>
+    ensures { let lines = (if nat_le place (length buffer.now) then take place buffer.now else []) in
+        OnOk result (Appends (W.contents out.old) (W.contents out.new) lines) }
 {
-    out.write_all(&buffer[..count])
-}
-
-// The same of lines that were put up to a place: past the buffer's end, they did not fit.
-pub fn print_fitted<W: Write>(out: &mut W, buffer: &[u8], place: usize) -> io::Result<()> {
-    if place <= buffer.len() {
-        print_bytes(out, buffer, place)?;
+    match buffer.get(..place) {
+        Some(lines) => out.write_all(lines),
+        None => Ok(()),
     }
-    Ok(())
 }

@@ -6,9 +6,9 @@ use job_print::{BENCH_WORDS, BUFFER_BYTES, INPUT_BYTES};
 use std::io;
 
 fn main(rt: HostRuntime) -> io::Result<()> {
-    let mut input = [0u8; INPUT_BYTES];
-    let mut words = [0u64; BENCH_WORDS];
-    let mut buffer = [0u8; BUFFER_BYTES];
-    let count = program_io::read_full(&mut rt.stdin(), &mut input)?;
-    job_print::print_job(&mut rt.stdout(), &mut words, &input, count, &mut buffer)
+    let mut input = [0; INPUT_BYTES];
+    let mut words = [0; BENCH_WORDS];
+    let mut buffer = [0; BUFFER_BYTES];
+    let job = program_io::read_full(&mut rt.stdin(), &mut input)?;
+    job_print::print_job(&mut rt.stdout(), &mut words, job, &mut buffer)
 }
