@@ -2,7 +2,8 @@
 ghost use Rattle.std.specs.Prelude.{◌≡◌};
 ghost use Rattle.c_arguments.specs.Arguments.{fields_from};
 
-use flits::{FIELDS, Header};
+pub use flits::FIELDS;
+use flits::Header;
 
 // Places of the fields for C, in the order of `Header`.
 pub const FIELD_TYPE: usize = 0;
@@ -45,5 +46,24 @@ pub const FIELD_FROM_PORT: usize = 17;
 pub fn fields_from(fields: &[u64; FIELDS]) -> Header
     ensures { result ≡ fields_from fields.now }
 {
-    Header::from(*fields)
+    Header::from([
+        fields[FIELD_TYPE],
+        fields[FIELD_TAG],
+        fields[FIELD_TO_CHIP],
+        fields[FIELD_TO_X],
+        fields[FIELD_TO_Y],
+        fields[FIELD_TO_PORT],
+        fields[FIELD_STATE],
+        fields[FIELD_MISS],
+        fields[FIELD_ADDRESS_5_4],
+        fields[FIELD_LAST],
+        fields[FIELD_ADDRESS],
+        fields[FIELD_VECTOR],
+        fields[FIELD_ICACHE],
+        fields[FIELD_SIZE],
+        fields[FIELD_FROM_CHIP],
+        fields[FIELD_FROM_X],
+        fields[FIELD_FROM_Y],
+        fields[FIELD_FROM_PORT],
+    ])
 }
