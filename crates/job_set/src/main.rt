@@ -41,7 +41,7 @@ fn read_job<'a, R: Files + Eprint>(
     input: &'a mut [u8; INPUT_BYTES],
 ) -> io::Result<Option<&'a [u8]>> {
     match fs::open(rt, name) {
-        Ok(mut file) => Ok(Some(program_io::read_full(&mut file, input)?)),
+        Ok(mut file) => Ok(Some(job_print::read_job(&mut file, input)?)),
         Err(error) => {
             eprintln!(rt; "{name}: {error}")?;
             Ok(None)

@@ -9,6 +9,6 @@ fn main(rt: HostRuntime) -> io::Result<()> {
     let mut input = [0; INPUT_BYTES];
     let mut words = [0; BENCH_WORDS];
     let mut buffer = [0; BUFFER_BYTES];
-    let job = program_io::read_full(&mut rt.stdin(), &mut input)?;
+    let job = job_print::read_job(&mut rt.stdin(), &mut input)?;
     job_print::print_job(&mut rt.stdout(), &mut words, job, &mut buffer)
 }
