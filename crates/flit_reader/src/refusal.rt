@@ -18,25 +18,31 @@ pub fn check_front(
     ensures { told_refusal result ≡ lowest (read_refusals row header count flit1 flit2 flit3) }
 {
     let following = bits::cut(flit1, places::LENGTH, places::LENGTH_BITS);
+    // all are asked before the first is answered: a branch on each as it is asked costs more
+    let known = flit_checks::in_table(row);
+    let long = flit_checks::length_allowed(row, following);
+    let ports = flit_checks::ports_listed(row, header);
+    let clear = flit_checks::reserved_clear(row, flit1, flit2, flit3);
+    let allowed = flit_checks::fields_allowed(row, row.extra() < following, header);
     if count == 0 {
         return Err(Refusal::NoFlit);
     }
-    if !flit_checks::in_table(row) {
+    if !known {
         return Err(Refusal::UnknownType);
     }
-    if !flit_checks::length_allowed(row, following) {
+    if !long {
         return Err(Refusal::WrongLength);
     }
     if following >= count {
         return Err(Refusal::FlitsMissing);
     }
-    if !flit_checks::ports_listed(row, header) {
+    if !ports {
         return Err(Refusal::UnknownPort);
     }
-    if !flit_checks::reserved_clear(row, flit1, flit2, flit3) {
+    if !clear {
         return Err(Refusal::ReservedSet);
     }
-    if !flit_checks::fields_allowed(row, row.extra() < following, header) {
+    if !allowed {
         return Err(Refusal::BadField);
     }
     Ok(())

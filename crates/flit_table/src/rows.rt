@@ -39,6 +39,7 @@ fn row_of_entry(entry: u64) -> TypeRow
 }
 
 // The row of a type, of any number.
+#[inline(always)]
 pub fn type_row(opcode: u64) -> TypeRow
     ensures { result ≡ row_of opcode }
 {

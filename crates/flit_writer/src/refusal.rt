@@ -19,16 +19,21 @@ pub fn check_message(
     ensures { told_refusal result ≡ lowest (write_refusals row header count room at) }
 {
     let following = row.extra() + count as u64;
-    if !flit_checks::in_table(row) {
+    // as in check_front of flit_reader
+    let known = flit_checks::in_table(row);
+    let long = flit_checks::length_allowed(row, following);
+    let ports = flit_checks::ports_listed(row, header);
+    let allowed = flit_checks::fields_allowed(row, 0 < count, header);
+    if !known {
         return Err(Refusal::UnknownType);
     }
-    if !flit_checks::length_allowed(row, following) {
+    if !long {
         return Err(Refusal::WrongLength);
     }
-    if !flit_checks::ports_listed(row, header) {
+    if !ports {
         return Err(Refusal::UnknownPort);
     }
-    if !flit_checks::fields_allowed(row, 0 < count, header) {
+    if !allowed {
         return Err(Refusal::BadField);
     }
     if !lists::room(room, at, (following + 1) as usize) {
