@@ -105,13 +105,20 @@ fn put(words: &mut [u64], numbers: &[u64]) {
     }
 }
 
-fn one<W: Write>(out: &mut W, words: &mut [u64; LENT_WORDS], case: &Case) -> io::Result<()> {
-    let numbers = case.numbers.as_slice();
-    match case.command {
-        Some(b'w') => put(words, numbers),
-        Some(b'c') => show(out, call, words, numbers)?,
-        Some(b's') => show(out, start, words, numbers)?,
-        _ => {}
+fn one<W: Write>(
+    out: &mut W,
+    words: &mut [u64; LENT_WORDS],
+    case: Case,
+    numbers: &mut Vec<u64>,
+) -> io::Result<()> {
+    let Some(command @ (b'w' | b'c' | b's')) = case.command else {
+        return Ok(());
+    };
+    case.numbers(numbers)?;
+    match command {
+        b'w' => put(words, numbers.as_slice()),
+        b'c' => show(out, call, words, numbers.as_slice())?,
+        _ => show(out, start, words, numbers.as_slice())?,
     }
     Ok(())
 }
@@ -120,9 +127,10 @@ fn main(rt: HostRuntime) -> io::Result<()> {
     let mut buffer = vec![in rt.alloc(); 0; INPUT_BYTES]?;
     let input = program_io::read_full(&mut rt.stdin(), buffer.as_mut_slice())?;
     let mut words = [0; LENT_WORDS];
+    let mut numbers = Vec::new(rt.alloc());
     let mut out = BufWriter::new(rt.alloc(), rt.stdout())?;
-    for case in Cases::new(rt.alloc(), input, DECIMAL) {
-        one(&mut out, &mut words, &case?)?;
+    for case in Cases::new(input, DECIMAL) {
+        one(&mut out, &mut words, case, &mut numbers)?;
     }
     out.flush()
 }

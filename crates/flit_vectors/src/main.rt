@@ -103,22 +103,25 @@ fn show_write<W: Write>(out: &mut W, numbers: &[u64]) -> io::Result<()> {
     writeln!(out, " buffer{}", Words(buffer))
 }
 
-fn run<W: Write>(out: &mut W, case: &Case) -> io::Result<()> {
-    let numbers = case.numbers.as_slice();
-    match case.command {
-        Some(b'r') => show_read(out, numbers),
-        Some(b'w') => show_write(out, numbers),
-        Some(b'k') => show_walk(out, numbers),
-        _ => Ok(()),
+fn run<W: Write>(out: &mut W, case: Case, numbers: &mut Vec<u64>) -> io::Result<()> {
+    let Some(command @ (b'r' | b'w' | b'k')) = case.command else {
+        return Ok(());
+    };
+    case.numbers(numbers)?;
+    match command {
+        b'r' => show_read(out, numbers.as_slice()),
+        b'w' => show_write(out, numbers.as_slice()),
+        _ => show_walk(out, numbers.as_slice()),
     }
 }
 
 fn main(rt: HostRuntime) -> io::Result<()> {
     let mut buffer = [0; INPUT_BYTES];
     let input = program_io::read_full(&mut rt.stdin(), &mut buffer)?;
+    let mut numbers = Vec::new(rt.alloc());
     let mut out = BufWriter::new(rt.alloc(), rt.stdout())?;
-    for case in Cases::new(rt.alloc(), input, HEXADECIMAL) {
-        run(&mut out, &case?)?;
+    for case in Cases::new(input, HEXADECIMAL) {
+        run(&mut out, case, &mut numbers)?;
     }
     out.flush()
 }

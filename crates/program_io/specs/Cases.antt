@@ -1,7 +1,6 @@
 -- Test cases as lines: what a line says, in numbers of a base.
-use Rattle.std.specs.Prelude.{◌≡◌, ℕ, ◌+◌, ◌-◌, ◌*◌, ◌%◌, ◌^◌, not, ◌&&◌, is_none, List, ◌∷◌, ◌++◌, length, map, take, drop, fold, filter, filter_map, Option, Some, None, Contains, MatchOption, Result, IfOk, slice_get, ◌==◌, nat_lt, nat_le, if◌then◌else◌}
+use Rattle.std.specs.Prelude.{◌≡◌, ℕ, ◌+◌, ◌-◌, ◌*◌, ◌%◌, ◌^◌, not, ◌&&◌, is_none, List, ◌∷◌, ◌++◌, length, map, drop, fold, filter, filter_map, Option, Some, None, Contains, MatchOption, slice_get, ◌==◌, nat_lt, nat_le, if◌then◌else◌}
 use Rattle.std.specs.List.{slice_split, prefix_len}
-use Rattle.std.specs.declared.alloc.AllocError.{AllocError}
 use Rattle.program_io.specs.declared.cases.Case.{Case}
 
 -- the byte that ends a line
@@ -33,14 +32,14 @@ numbers_of base text =
 abbrev pub without_zeros : List ℕ → List ℕ
 without_zeros line = drop (prefix_len (λ byte. byte == 0) line) line
 
--- A line's first byte, and the numbers behind it.
+-- A line's first byte, and the text after it, whose numbers are in this base.
 abbrev pub IsCase : ℕ → List ℕ → Case → Type 0
 IsCase base line case = (case.command ≡ slice_get (without_zeros line) 0)
-    × (case.numbers.items ≡ take most_numbers (numbers_of base (drop 1 (without_zeros line))))
+    × ((case.text.now ≡ drop 1 (without_zeros line)) × (case.base ≡ base))
 
--- The front line of an input goes, with its newline, and its case is read where there is memory. With no newline left, no case is.
-abbrev pub ReadsCase : ℕ → List ℕ → Option (Result Case AllocError) → List ℕ → Type 0
+-- The front line of an input goes, with its newline, and is the case. With no newline left, no case is.
+abbrev pub ReadsCase : ℕ → List ℕ → Option Case → List ℕ → Type 0
 ReadsCase base old read new =
-    let Reads : Result Case AllocError → Type 0 =
-    λ case. (line : List ℕ) × ((old ≡ line ++ newline ∷ new) × ¬ Contains line newline × IfOk case (IsCase base line)) in
+    let Reads : Case → Type 0 =
+    λ case. (line : List ℕ) × ((old ≡ line ++ newline ∷ new) × ¬ Contains line newline × IsCase base line case) in
     MatchOption read (¬ Contains old newline) Reads

@@ -1,25 +1,25 @@
 // Test cases as lines: the first byte of a line says what it is, the numbers after it are in base 10 or 16.
-ghost use Rattle.std.specs.Prelude.{◌≡◌, length, slice_index, take, IfOk, ◌==◌, ◌≤◌};
+ghost use Rattle.std.specs.Prelude.{◌≡◌, length, slice_index, take, OnOk, ◌++◌, ◌==◌, ◌≤◌};
 ghost use Rattle.std.specs.Iterator.{at_most};
 ghost use Rattle.std.specs.List.{prefix_len};
 ghost use Rattle.program_io.specs.Cases.{IsCase, ReadsCase, digit_of, number_of, numbers_of, most_numbers};
 
-use std::alloc::{AllocError, Global};
+use std::alloc::AllocError;
 
 // Numbers of a line behind these are not kept.
 const MOST_NUMBERS: usize = 64;
 
-// A line: its first byte, if it has one, and the numbers after it.
-#[derive(Drop)]
-pub struct Case {
+// A line: its first byte, if it has one, and the text after it, in which the numbers stand.
+#[derive(Clone, Copy)]
+pub struct Case<'a> {
     pub command: Option<u8>,
-    pub numbers: Vec<u64>,
+    text: &'a [u8],
+    base: u64,
 }
 
 // The lines of an input, in order. What stands behind the last newline is a remark.
 #[derive(Drop)]
 pub struct Cases<'a> {
-    alloc: Global,
     input: &'a [u8],
     base: u64,
 }
@@ -53,15 +53,16 @@ fn number(digits: &[u8], base: u64) -> u64
     )
 }
 
-// The numbers of a text. Each is a run of digits that is as long as can be.
-fn numbers(alloc: Global, text: &[u8], base: u64) -> Result<Vec<u64>, AllocError>
-    ensures { IfOk result (λ numbers. numbers.items ≡ take most_numbers (numbers_of base text.now)) }
+// Puts the numbers of a text behind others. Each is a run of digits that is as long as can be.
+fn put_numbers(text: &[u8], base: u64, numbers: &mut Vec<u64>) -> Result<(), AllocError>
+    ensures { OnOk result (numbers.new.items ≡ numbers.old.items ++ take most_numbers (numbers_of base text.now)) }
 {
-    text.split(|byte| digit(*byte, base).is_none())
-        .filter(|digits| !digits.is_empty())
-        .map(|digits| number(digits, base))
-        .take(MOST_NUMBERS)
-        .collect(alloc)
+    numbers.extend(
+        text.split(|byte| digit(*byte, base).is_none())
+            .filter(|digits| !digits.is_empty())
+            .map(|digits| number(digits, base))
+            .take(MOST_NUMBERS),
+    )
 }
 
 // How many bytes 0 stand at the front of a line.
@@ -72,43 +73,53 @@ fn zeros(line: &[u8]) -> usize
     line.iter().take_while(|byte| **byte == 0).count()
 }
 
-impl Case {
+impl<'a> Case<'a> {
     // Bytes 0 before the command are passed over.
-    fn read(alloc: Global, line: &[u8], base: u64) -> Result<Case, AllocError>
-        ensures { IfOk result (IsCase base line.now) }
+    fn of(line: &'a [u8], base: u64) -> Case<'a>
+        ensures { IsCase base line.now result }
     {
-        let Some((command, text)) = line[zeros(line)..].split_first() else {
-            return Ok(Case {
+        match line[zeros(line)..].split_first() {
+            Some((command, text)) => Case {
+                command: Some(*command),
+                text,
+                base,
+            },
+            None => Case {
                 command: None,
-                numbers: Vec::new(alloc),
-            });
-        };
-        Ok(Case {
-            command: Some(*command),
-            numbers: numbers(alloc, text, base)?,
-        })
+                text: &[],
+                base,
+            },
+        }
+    }
+
+    // Puts the line's numbers in place of those that are there: so the lines of an input need memory once.
+    pub fn numbers(self, numbers: &mut Vec<u64>) -> Result<(), AllocError>
+        ensures { OnOk result (numbers.new.items ≡ take most_numbers (numbers_of self.entry.base self.entry.text.now)) }
+    {
+        numbers.clear();
+        put_numbers(self.text, self.base, numbers)
     }
 }
 
 impl<'a> Cases<'a> {
-    pub fn new(alloc: Global, input: &'a [u8], base: u64) -> Cases<'a>
+    pub fn new(input: &'a [u8], base: u64) -> Cases<'a>
         ensures { (result.input.now ≡ input.entry.now) × (result.base ≡ base) }
     {
-        Cases { alloc, input, base }
+        Cases { input, base }
     }
 }
 
-impl Iterator for Cases<'_> {
-    type Item = Result<Case, AllocError>;
+impl<'a> Iterator for Cases<'a> {
+    type Item = Case<'a>;
 
     ghost next_gives = { λ s r t. ReadsCase s.base s.input.now r t.input.now × (t.base ≡ s.base) };
 
     ghost remaining = { λ s. at_most (length s.input.now) };
 
-    fn next(&mut self) -> Option<Result<Case, AllocError>> {
+    fn next(&mut self) -> Option<Case<'a>> {
         let end = self.input.iter().position(|byte| *byte == b'\n')?;
         let line = &self.input[..end];
         self.input = &self.input[end + 1..];
-        Some(Case::read(self.alloc, line, self.base))
+        Some(Case::of(line, self.base))
     }
 }
