@@ -8,11 +8,10 @@ use numbers::ports::{PORT_EAST, PORT_NORTH, PORT_PROCESSOR, PORT_SOUTH, PORT_WES
 fn port_listed(port: u64) -> bool
     ensures { result ≡ port_listed port }
 {
-    (port == PORT_PROCESSOR)
-        | (port == PORT_WEST)
-        | (port == PORT_SOUTH)
-        | (port == PORT_EAST)
-        | (port == PORT_NORTH)
+    matches!(
+        port,
+        PORT_PROCESSOR | PORT_WEST | PORT_SOUTH | PORT_EAST | PORT_NORTH
+    )
 }
 
 // 14: the destination's port is listed, and on three header flits the source's.
@@ -20,5 +19,5 @@ fn port_listed(port: u64) -> bool
 pub fn ports_listed(row: TypeRow, header: Header) -> bool
     ensures { result ≡ ports_listed row header }
 {
-    port_listed(header.to.port) & (!row.three | port_listed(header.from.port))
+    port_listed(header.to.port) && (!row.three || port_listed(header.from.port))
 }

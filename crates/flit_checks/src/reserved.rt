@@ -11,7 +11,7 @@ use flit_rules::TypeRow;
 pub fn reserved_clear(row: TypeRow, flit1: u64, flit2: u64, flit3: u64) -> bool
     ensures { result ≡ reserved_clear row flit1 flit2 flit3 }
 {
-    (row.options | (bits::cut(flit1, places::OPTIONS, places::OPTIONS_BITS) == 0))
-        & (bits::cut(flit2, places::RESERVED2, places::RESERVED2_BITS) == 0)
-        & (bits::cut(flit3, places::RESERVED3, places::RESERVED3_BITS) == 0)
+    (row.options || bits::cut(flit1, places::OPTIONS, places::OPTIONS_BITS) == 0)
+        && bits::cut(flit2, places::RESERVED2, places::RESERVED2_BITS) == 0
+        && bits::cut(flit3, places::RESERVED3, places::RESERVED3_BITS) == 0
 }

@@ -15,5 +15,5 @@ pub fn in_table(row: TypeRow) -> bool
 pub fn length_allowed(row: TypeRow, following: u64) -> bool
     ensures { result ≡ length_allowed row following }
 {
-    (following == row.short) | (following == row.long)
+    following == row.short || following == row.long
 }

@@ -18,7 +18,7 @@ pub fn check_front(
     ensures { told_refusal result ≡ lowest (read_refusals row header count flit1 flit2 flit3) }
 {
     let following = bits::cut(flit1, places::LENGTH, places::LENGTH_BITS);
-    // all are asked before the first is answered: a branch on each as it is asked costs more
+    // all are asked before the first is answered: asked one by one, they cost more
     let known = flit_checks::in_table(row);
     let long = flit_checks::length_allowed(row, following);
     let ports = flit_checks::ports_listed(row, header);

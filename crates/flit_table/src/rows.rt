@@ -38,7 +38,7 @@ fn row_of_entry(entry: u64) -> TypeRow
     }
 }
 
-// The row of a type, of any number.
+// The row of a type, of any number. Inline, as fields_allowed of flit_checks.
 #[inline(always)]
 pub fn type_row(opcode: u64) -> TypeRow
     ensures { result ≡ row_of opcode }

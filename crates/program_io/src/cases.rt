@@ -92,7 +92,7 @@ impl<'a> Case<'a> {
         }
     }
 
-    // Puts the line's numbers in place of those that are there: so the lines of an input need memory once.
+    // Puts the line's numbers in place of those that are there: so the lines of an input share their memory.
     pub fn numbers(self, numbers: &mut Vec<u64>) -> Result<(), AllocError>
         ensures { OnOk result (numbers.new.items ≡ take most_numbers (numbers_of self.entry.base self.entry.text.now)) }
     {
