@@ -74,7 +74,7 @@ fn fields_suit(row: TypeRow, carries: bool, header: Header) -> bool
         && options_suit(row, carries, header)
 }
 
-// Inline: called, its row and header are stored and loaded again, and a message costs a fifth more.
+// Inline: where it is called, the row and the header are stored for it and loaded again.
 #[inline(always)]
 #[tactic(auto, unfolding(flit_rules::specs::Rules::fields_allowed))]
 pub fn fields_allowed(row: TypeRow, carries: bool, header: Header) -> bool
